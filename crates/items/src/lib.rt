@@ -1,0 +1,10 @@
+// Item kinds: what can be handed over through a store's cells.
+mod kind;
+mod notice;
+mod reading;
+
+pub use kind::ItemKind;
+pub use notice::Notice;
+pub use notice::NoticeKind;
+pub use reading::Reading;
+pub use reading::ReadingKind;

@@ -1,0 +1,15 @@
+// The shared store: its model, its calls and their refusals, and record memory.
+mod cell;
+mod record;
+mod refusal;
+mod slices;
+mod store;
+
+pub use cell::Cell;
+pub use record::RecordMemory;
+pub use record::RecordMemoryStore;
+pub use refusal::Layer;
+pub use refusal::Refusal;
+pub use refusal::StoreFault;
+pub use refusal::StoreFaultRefusal;
+pub use store::Store;
