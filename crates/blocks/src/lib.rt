@@ -1,0 +1,13 @@
+// Block memory: a store over lent bytes, laid out in blocks with checks, and the inspection of such bytes.
+mod fault;
+mod inspection;
+mod reading;
+mod words;
+
+pub use fault::BlockFault;
+pub use fault::BlockFaultRefusal;
+pub use inspection::fits;
+pub use inspection::inspect;
+pub use reading::Header;
+pub use reading::stored_cell;
+pub use reading::stored_header;

@@ -1,0 +1,38 @@
+// Words in bytes, and the check of a block.
+ghost use mathlib.Core.Path.{_≡_};
+ghost use Prim.Native.Nat.{_+_, _*_, _≤_, _<_};
+ghost use lib.ListN.{length};
+ghost use Rattle.layout.specs.Words.{word, put};
+ghost use Rattle.layout.specs.Blocks.{place, check-of};
+
+pub(crate) const BLOCK_BYTES: usize = 512;
+// The word of a block that is its check.
+pub(crate) const CHECK_WORD: usize = 63;
+
+pub(crate) fn word_at(mem: &[u8], at: usize) -> u64
+    requires { ⌜ at + 8 ≤ length (now mem) ⌝ }
+    ensures { λ r. ⌜ r ≡ word (now (mem .entry)) at ⌝ }
+{
+    u64::from_le_bytes([
+        mem[at],
+        mem[at + 1],
+        mem[at + 2],
+        mem[at + 3],
+        mem[at + 4],
+        mem[at + 5],
+        mem[at + 6],
+        mem[at + 7],
+    ])
+}
+
+// The check that block `b` has to have.
+pub(crate) fn check_of(mem: &[u8], b: usize) -> u64
+    requires { ⌜ 512 * b + 512 ≤ length (now mem) ⌝ }
+    ensures { λ r. ⌜ r ≡ check-of (now (mem .entry)) b ⌝ }
+{
+    let mut sum = (b as u64).wrapping_add(1);
+    for j in 0..CHECK_WORD {
+        sum = sum.wrapping_add(word_at(mem, BLOCK_BYTES * b + 8 * j));
+    }
+    sum
+}
