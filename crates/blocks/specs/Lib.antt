@@ -1,3 +1,5 @@
 pub mod Faults
 pub mod Inspection
 pub mod Readings
+pub mod Models
+pub mod Memory

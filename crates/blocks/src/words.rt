@@ -3,7 +3,7 @@ ghost use mathlib.Core.Path.{_≡_};
 ghost use Prim.Native.Nat.{_+_, _*_, _≤_, _<_};
 ghost use lib.ListN.{length};
 ghost use Rattle.layout.specs.Words.{word, put};
-ghost use Rattle.layout.specs.Blocks.{place, check-of};
+ghost use Rattle.layout.specs.Blocks.{place, check-of, stored};
 
 pub(crate) const BLOCK_BYTES: usize = 512;
 // The word of a block that is its check.
@@ -35,4 +35,32 @@ pub(crate) fn check_of(mem: &[u8], b: usize) -> u64
         sum = sum.wrapping_add(word_at(mem, BLOCK_BYTES * b + 8 * j));
     }
     sum
+}
+
+pub(crate) fn put_word(mem: &mut [u8], at: usize, w: u64)
+    requires { ⌜ at + 8 ≤ length (now mem) ⌝ }
+    ensures { λ _. ⌜ now (mem .exit) ≡ put (now (mem .entry)) at w ⌝ }
+{
+    mem[at] = (w % 256) as u8;
+    mem[at + 1] = (w / 256 % 256) as u8;
+    mem[at + 2] = (w / 65536 % 256) as u8;
+    mem[at + 3] = (w / 16777216 % 256) as u8;
+    mem[at + 4] = (w / 4294967296 % 256) as u8;
+    mem[at + 5] = (w / 1099511627776 % 256) as u8;
+    mem[at + 6] = (w / 281474976710656 % 256) as u8;
+    mem[at + 7] = (w / 72057594037927936 % 256) as u8;
+}
+
+// Word `j` of block `b` becomes `w`, and the block's check moves by the difference.
+pub(crate) fn store_word(mem: &mut [u8], b: usize, j: usize, w: u64)
+    requires block { ⌜ 512 * b + 512 ≤ length (now mem) ⌝ }
+    requires plain { ⌜ j < 63 ⌝ }
+    ensures { λ _. ⌜ now (mem .exit) ≡ stored (now (mem .entry)) b j w ⌝ }
+{
+    let at = BLOCK_BYTES * b + 8 * j;
+    let check_at = BLOCK_BYTES * b + 8 * CHECK_WORD;
+    let old = word_at(mem, at);
+    let check = word_at(mem, check_at);
+    put_word(mem, at, w);
+    put_word(mem, check_at, check.wrapping_add(w).wrapping_sub(old));
 }

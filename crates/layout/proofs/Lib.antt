@@ -1,2 +1,10 @@
 pub mod Puts
 pub mod Sums
+pub mod Stored
+pub mod Images
+pub mod Writing
+pub mod Models
+pub mod ModelImages
+pub mod Fits
+pub mod Actions
+pub mod Clearing

@@ -33,9 +33,9 @@ decoded item n m =
     record { head = min (word m (place 0 1)) (2 ^ 40); end = toZ w64 (word m (place 0 2)); cells = map (cell-in item m) (counting 0 n) }
 
 -- the model of a store of n cells over the bytes m; where they do not fit, no cells
-abbrev pub block-model : {X : Type 0} → (ℕ → X) → ℕ → List ℕ → Contents X
+unfoldable pub block-model : {X : Type 0} → (ℕ → X) → ℕ → List ℕ → Contents X
 block-model item n m = cond (fit (length m) n) (decoded item n m) no-contents
 
 -- the bytes m, if they fit n cells, are the image of their model
-abbrev pub Imaged : {X : Type 0} → (X → ℕ) → (ℕ → X) → ℕ → List ℕ → Type 0
+unfoldable pub Imaged : {X : Type 0} → (X → ℕ) → (ℕ → X) → ℕ → List ℕ → Type 0
 Imaged word item n m = fit (length m) n ≡ true → m ≡ image (in-words word (block-model item n m))

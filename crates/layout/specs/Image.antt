@@ -1,7 +1,8 @@
 -- The image of a model: the bytes that a block memory has for it.
+use mathlib.Core.Path.{_≡_}
 use mathlib.Core.Bool.{cond}
 use mathlib.Core.List.{List, map}
-use Prim.Native.Nat.{ℕ, zero, suc, _+_, _*_, _/_, _%_, _^_}
+use Prim.Native.Nat.{ℕ, zero, suc, _+_, _*_, _/_, _%_, _^_, _<_}
 use lib.Dec.{eqb, ltb}
 use lib.IntN.{ℤ, pos}
 use lib.ListN.{getD}
@@ -48,6 +49,10 @@ byte-at f k = byte-of (full f (k / 512) (k % 512 / 8)) (k % 8)
 
 abbrev pub bytes-of : (ℕ → ℕ → ℕ) → ℕ → List ℕ
 bytes-of f blocks = map (byte-at f) (counting 0 (512 * blocks))
+
+-- the first k bytes of the memory are those of the words f
+abbrev pub Written : (ℕ → ℕ → ℕ) → List ℕ → ℕ → Type 0
+Written f mem k = (i : ℕ) → i < k → getD mem i 0 ≡ byte-at f i
 
 abbrev pub image : Contents ℕ → List ℕ
 image m = bytes-of (plain m) (blocks-for (size m))
