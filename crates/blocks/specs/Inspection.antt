@@ -2,11 +2,13 @@
 use mathlib.Core.Path.{_≡_}
 use mathlib.Core.Bool.{true, false, cond}
 use mathlib.Core.List.{List}
-use Prim.Native.Nat.{ℕ, _<_}
+use Prim.Native.Nat.{ℕ, _<_, _≤_}
 use lib.ListN.{length}
 use Rattle.std.specs.declared.result.Result.{Result}
 use Rattle.std.specs.declared.result.Result.the-variants.{Ok, Err}
+use Rattle.stores.specs.Model.{Contents, size}
 use Rattle.layout.specs.Blocks.{fit, blocks-for, Checked}
+use Rattle.layout.specs.Image.{image}
 use Rattle.blocks.specs.declared.fault.BlockFault.{BlockFault}
 use Rattle.blocks.specs.declared.fault.BlockFault.the-variants.{Unfit, BadCheck}
 
@@ -19,3 +21,10 @@ Inspected m n (Ok u) = (fit (length m) n ≡ true) × ((b : ℕ) → b < blocks-
 Inspected m n (Err Unfit) = fit (length m) n ≡ false
 Inspected m n (Err (BadCheck b)) =
     (fit (length m) n ≡ true) × (b < blocks-for n) × (Checked m b → ⊥) × ((a : ℕ) → a < b → Checked m a)
+
+-- the memory m is the image of the contents s, items as words, of n cells
+pub record IsImage (m : List ℕ) (n : ℕ) (s : Contents ℕ) : Type 0 where
+  pub count : size s ≡ n
+  pub some : 0 < n
+  pub most : n ≤ 65536
+  pub bytes : m ≡ image s

@@ -6,14 +6,12 @@ use crate::words::CHECK_WORD;
 use crate::words::check_of;
 use crate::words::word_at;
 ghost use mathlib.Core.Path.{_≡_};
-ghost use mathlib.Core.Bool.{true};
 ghost use Prim.Native.Nat.{ℕ};
 ghost use lib.ListN.{length};
 ghost use Rattle.std.specs.declared.result.Result.the-variants.{Ok};
-ghost use Rattle.stores.specs.Model.{Contents, size};
+ghost use Rattle.stores.specs.Model.{Contents};
 ghost use Rattle.layout.specs.Blocks.{fit};
-ghost use Rattle.layout.specs.Image.{image};
-ghost use Rattle.blocks.specs.Inspection.{fit-answer, Inspected};
+ghost use Rattle.blocks.specs.Inspection.{fit-answer, Inspected, IsImage};
 
 pub(crate) const MAX_CELLS: usize = 65_536;
 
@@ -33,6 +31,13 @@ pub fn fits(size: usize, n: usize) -> Result<(), BlockFault>
 // Whether the memory fits `n` cells and every block has its check; else the first that fails.
 pub fn inspect(mem: &[u8], n: usize) -> Result<(), BlockFault>
     ensures verdict { λ r. ⌜ Inspected (now (mem .entry)) n r ⌝ }
+    ensures image { λ r. ⌜ ((s : Contents ℕ) → IsImage (now (mem .entry)) n s → r ≡ Ok tt) ⌝ }
+{
+    verdict(mem, n)
+}
+
+fn verdict(mem: &[u8], n: usize) -> Result<(), BlockFault>
+    ensures { λ r. ⌜ Inspected (now (mem .entry)) n r ⌝ }
 {
     fits(mem.len(), n)?;
     for b in 0..mem.len() / BLOCK_BYTES {
