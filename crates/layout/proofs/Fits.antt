@@ -14,6 +14,7 @@ use Rattle.std.proofs.shelf.Tests.{and-parts, ltb-true, leb-true, eqb-true, cas
 use Rattle.stores.specs.Model.{Contents, size, no-contents, cell-of, fresh-cell}
 use Rattle.layout.specs.Words.{word}
 use Rattle.layout.specs.Blocks.{place, blocks-for, fit}
+use Rattle.layout.specs.Image.{in-words, image}
 use Rattle.layout.specs.Decoding.{cell-in, decoded, block-model, Imaged}
 use Rattle.layout.proofs.Models.{size-decoded, cell-decoded}
 
@@ -83,3 +84,10 @@ module _ {X : Type 0} (item : ℕ → X) (n : ℕ) (m : List ℕ) where
   pub imaged-unfit : (word-of : X → ℕ) → fit (length m) n ≡ false → Imaged word-of item n m
   unfolding Imaged
   imaged-unfit word-of e f = absurd (both-ways (fit (length m) n) e f)
+
+  -- of one with a cell, the bytes are told by the model
+  pub imaged-bytes : (word-of : X → ℕ) (s : Contents X) → 0 < size s → Imaged word-of item n m → block-model item n m ≡ s →
+      m ≡ image (in-words word-of s)
+  unfolding Imaged
+  imaged-bytes word-of s h i e =
+      i (fit-some 0 (omega (arith, ap size e))) ∙ ap (λ x. image (in-words word-of x)) e
