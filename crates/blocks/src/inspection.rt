@@ -37,6 +37,13 @@ pub fn inspect(mem: &[u8], n: usize) -> Result<(), BlockFault>
 }
 
 fn verdict(mem: &[u8], n: usize) -> Result<(), BlockFault>
+    ensures verdict { λ r. ⌜ Inspected (now (mem .entry)) n r ⌝ }
+    ensures image { λ r. ⌜ ((s : Contents ℕ) → IsImage (now (mem .entry)) n s → r ≡ Ok tt) ⌝ }
+{
+    check_blocks(mem, n)
+}
+
+fn check_blocks(mem: &[u8], n: usize) -> Result<(), BlockFault>
     ensures { λ r. ⌜ Inspected (now (mem .entry)) n r ⌝ }
 {
     fits(mem.len(), n)?;

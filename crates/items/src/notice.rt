@@ -19,7 +19,7 @@ pub impl ItemKind for Notice as NoticeKind {
     ghost blank = { no-notice };
 
     fn blank() -> Notice {
-        Notice::Nothing
+        Self::Nothing
     }
 
     fn encode(self) -> u64 {
