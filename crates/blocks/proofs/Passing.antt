@@ -21,7 +21,7 @@ module _ (m : List ℕ) (n : ℕ) (s : Contents ℕ) (i : IsImage m n s) where
   fit-image : fit (length m) n ≡ true
   fit-image =
       let long : length m ≡ 512 * blocks-for n =
-        ap length (i .bytes) ∙ length-bytes (plain s) (blocks-for (size s)) ∙ ap (λ k. 512 * blocks-for k) (i .count) in
+      ap length (i .bytes) ∙ length-bytes (plain s) (blocks-for (size s)) ∙ ap (λ k. 512 * blocks-for k) (i .count) in
       and-from _ _ (and-from _ _ (lt-ltb 0 n (i .some)) (le-leb n 65536 (i .most))) (eq-eqb (length m) (512 * blocks-for n) long)
 
   checked-image : (b : ℕ) → b < blocks-for n → Checked m b

@@ -2,8 +2,8 @@
 use crate::words::BLOCK_BYTES;
 use crate::words::CHECK_WORD;
 use crate::words::put_word;
-ghost use mathlib.Core.Path.{_≡_};
 ghost use mathlib.Core.Bool.{true};
+ghost use mathlib.Core.Path.{_≡_};
 ghost use Prim.Native.Nat.{ℕ, _+_, _*_, _^_, _<_, _≤_};
 ghost use lib.ListN.{length};
 ghost use Rattle.stores.specs.Model.{cleared};

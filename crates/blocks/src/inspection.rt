@@ -25,7 +25,11 @@ pub(crate) fn is_fit(size: usize, n: usize) -> bool
 pub fn fits(size: usize, n: usize) -> Result<(), BlockFault>
     ensures { λ r. ⌜ r ≡ fit-answer size n ⌝ }
 {
-    if is_fit(size, n) { Ok(()) } else { Err(BlockFault::Unfit) }
+    if is_fit(size, n) {
+        Ok(())
+    } else {
+        Err(BlockFault::Unfit)
+    }
 }
 
 // Whether the memory fits `n` cells and every block has its check; else the first that fails.

@@ -8,6 +8,8 @@ mod slices;
 mod words;
 
 pub use fault::BlockFault;
+pub use fault::BlockFaultDebug;
+pub use fault::BlockFaultPartialEq;
 pub use fault::BlockFaultRefusal;
 pub use inspection::fits;
 pub use inspection::inspect;

@@ -43,7 +43,10 @@ pub(crate) fn part_at(mem: &[u8], i: usize, part: usize) -> u64
     requires part { ⌜ part < 3 ⌝ }
     ensures { λ r. ⌜ r ≡ part-in (now (mem .entry)) i part ⌝ }
 {
-    word_at(mem, BLOCK_BYTES * (1 + i / BLOCK_CELLS) + 8 * (3 * (i % BLOCK_CELLS) + part))
+    word_at(
+        mem,
+        BLOCK_BYTES * (1 + i / BLOCK_CELLS) + 8 * (3 * (i % BLOCK_CELLS) + part),
+    )
 }
 
 // Cell `i`, if its block lies whole in the memory.

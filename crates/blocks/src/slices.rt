@@ -27,13 +27,21 @@ pub(crate) fn head_in<I: ItemKind>(mem: &[u8], n: usize) -> u64
     ensures value { λ r. ⌜ r ≡ block-model (I·ItemKind .item) n (now (mem .entry)) .head ⌝ }
     ensures bound { λ r. ⌜ r ≤ 2 ^ 40 ⌝ }
 {
-    if is_fit(mem.len(), n) { word_at(mem, 8).min(MAX_HEAD) } else { 0 }
+    if is_fit(mem.len(), n) {
+        word_at(mem, 8).min(MAX_HEAD)
+    } else {
+        0
+    }
 }
 
 pub(crate) fn end_in<I: ItemKind>(mem: &[u8], n: usize) -> i64
     ensures { λ r. ⌜ r ≡ block-model (I·ItemKind .item) n (now (mem .entry)) .end ⌝ }
 {
-    if is_fit(mem.len(), n) { word_at(mem, 16).cast_signed() } else { -1 }
+    if is_fit(mem.len(), n) {
+        word_at(mem, 16).cast_signed()
+    } else {
+        -1
+    }
 }
 
 pub(crate) fn item_in<I: ItemKind>(mem: &[u8], n: usize, i: usize) -> I

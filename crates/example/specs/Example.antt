@@ -20,10 +20,10 @@ abbrev pub example-contents : Contents Reading
 example-contents =
     with-head
     (with-gap zero-reading
-      (announced
-        (announced (cleared zero-reading 30 0) 3 (record { probe = 41; sequence = 7; level = negsuc 249 }))
-        24 (record { probe = 12; sequence = 65535; level = pos 1830 }))
-      5 (pos 5))
+    (announced
+    (announced (cleared zero-reading 30 0) 3 (record { probe = 41; sequence = 7; level = negsuc 249 }))
+    24 (record { probe = 12; sequence = 65535; level = pos 1830 }))
+    5 (pos 5))
     1
 
 unfoldable pub example-bytes : List ℕ

@@ -21,10 +21,16 @@ ghost use Rattle.example.specs.Example.{example-contents, example-bytes, NoCel
 
 // The example has so many cells, which take so many bytes.
 pub const CELLS: usize = 30;
+
 pub const BYTES: usize = 1536;
 
 // Puts an item into a cell of any store, and then its rank.
-pub fn announce<I: ItemKind, S: Store<Item = I>>(store: &mut S, i: usize, item: I, rank: i64) -> Result<(), S::Fault>
+pub fn announce<I: ItemKind, S: Store<Item = I>>(
+    store: &mut S,
+    i: usize,
+    item: I,
+    rank: i64,
+) -> Result<(), S::Fault>
     ensures done { λ r. ⌜ Done (Fault·Refusal .reason) (no-cell (Fault·Refusal .layer) (S·Store .model (now (store .entry))) i) tt (S·Store .model) (with-rank (I·ItemKind .blank) (with-item (I·ItemKind .blank) (S·Store .model (now (store .entry))) i item) i rank) (now (store .entry)) (now (store .exit)) r ⌝ }
     ensures image { λ _. ⌜ (S·Store .imaged (now (store .entry)) → S·Store .imaged (now (store .exit))) ⌝ }
     ensures lender { λ _. ⌜ S·Store .lender (now (store .exit)) ≡ S·Store .lender (now (store .entry)) ⌝ }

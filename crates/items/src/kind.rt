@@ -15,7 +15,7 @@ pub trait ItemKind: Copy {
     fn blank() -> Self
         ensures { λ r. ⌜ r ≡ blank ⌝ };
 
-    // `law` is the law of the kind: the word of an item reads back as that item.
+    // `law` is the law of the kind: what was encoded decodes to itself.
     fn encode(self) -> u64
         ensures value { λ r. ⌜ r ≡ word self ⌝ }
         ensures law { λ _. ⌜ item (word self) ≡ self ⌝ };

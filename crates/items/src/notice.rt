@@ -26,7 +26,9 @@ pub impl ItemKind for Notice as NoticeKind {
         match self {
             Notice::Nothing => 0,
             Notice::SilentProbe { probe } => 1 + 65536 * u64::from(probe),
-            Notice::Battery { probe, millivolts } => 2 + 65536 * u64::from(probe) + 4294967296 * u64::from(millivolts),
+            Notice::Battery { probe, millivolts } => 2
+                + 65536 * u64::from(probe)
+                + 4294967296 * u64::from(millivolts),
             Notice::ClockShift { seconds } => 3 + 4294967296 * u64::from(seconds.cast_unsigned()),
         }
     }

@@ -27,7 +27,9 @@ pub impl ItemKind for Reading as ReadingKind {
     }
 
     fn encode(self) -> u64 {
-        u64::from(self.probe) + 65536 * u64::from(self.sequence) + 4294967296 * u64::from(self.level.cast_unsigned())
+        u64::from(self.probe)
+            + 65536 * u64::from(self.sequence)
+            + 4294967296 * u64::from(self.level.cast_unsigned())
     }
 
     fn decode(w: u64) -> Reading {

@@ -63,9 +63,9 @@ module _ {X : Type 0} (word : X → ℕ) (item : ℕ → X) (n : ℕ) (m : List 
     part-image e same =
         ap image in-words-new
         ∙ image-with-cell (in-words word old) i p (cell-words word (change (cell-of blank old i))) hp
-          (omega (arith, length-map (old .cells) (cell-words word)))
-          (λ r hr ne. same (cell-of blank old i) r hr ne
-            ∙ sym (ap (λ c. part c r) (getD-map (cell-words word) (old .cells) i (fresh-cell blank) zero-cell hi)))
+        (omega (arith, length-map (old .cells) (cell-words word)))
+        (λ r hr ne. same (cell-of blank old i) r hr ne
+        ∙ sym (ap (λ c. part c r) (getD-map (cell-words word) (old .cells) i (fresh-cell blank) zero-cell hi)))
         ∙ ap (λ v. stored (image (in-words word old)) (cell-block i) (cell-word i + p) v) e
 
   -- ---- the three parts of a cell
@@ -86,9 +86,9 @@ module _ {X : Type 0} (word : X → ℕ) (item : ℕ → X) (n : ℕ) (m : List 
       item-model =
           part-model blank i 0 w (cell-item x) (omega arith) hi l wrote
           (same-cell (cell-in item (stored m (cell-block i) (cell-word i + 0) w) i) (cell-item x (cell-in item m i))
-            (ap item (same-part 0 w (omega arith) hw ∙ coded) ∙ law)
-            (ap (toZ w64) (other-part 0 w i 1 (omega arith) (omega arith) (λ y. let y1 = y .1 in omega arith)))
-            (ap (toZ w64) (other-part 0 w i 2 (omega arith) (omega arith) (λ y. let y1 = y .1 in omega arith))))
+          (ap item (same-part 0 w (omega arith) hw ∙ coded) ∙ law)
+          (ap (toZ w64) (other-part 0 w i 1 (omega arith) (omega arith) (λ y. let y1 = y .1 in omega arith)))
+          (ap (toZ w64) (other-part 0 w i 2 (omega arith) (omega arith) (λ y. let y1 = y .1 in omega arith))))
 
       pub item-imaged : Imaged word item n m → Imaged word item n l
       item-imaged =
@@ -101,9 +101,9 @@ module _ {X : Type 0} (word : X → ℕ) (item : ℕ → X) (n : ℕ) (m : List 
       rank-model =
           part-model blank i 1 w (cell-rank z) (omega arith) hi l wrote
           (same-cell (cell-in item (stored m (cell-block i) (cell-word i + 1) w) i) (cell-rank z (cell-in item m i))
-            (ap item (other-part 1 w i 0 (omega arith) (omega arith) (λ y. let y1 = y .1 in omega arith)))
-            (ap (toZ w64) (same-part 1 w (omega arith) hw ∙ coded) ∙ toZ-ofZ w64 z hz)
-            (ap (toZ w64) (other-part 1 w i 2 (omega arith) (omega arith) (λ y. let y1 = y .1 in omega arith))))
+          (ap item (other-part 1 w i 0 (omega arith) (omega arith) (λ y. let y1 = y .1 in omega arith)))
+          (ap (toZ w64) (same-part 1 w (omega arith) hw ∙ coded) ∙ toZ-ofZ w64 z hz)
+          (ap (toZ w64) (other-part 1 w i 2 (omega arith) (omega arith) (λ y. let y1 = y .1 in omega arith))))
 
       pub rank-imaged : Imaged word item n m → Imaged word item n l
       rank-imaged =
@@ -116,9 +116,9 @@ module _ {X : Type 0} (word : X → ℕ) (item : ℕ → X) (n : ℕ) (m : List 
       gap-model =
           part-model blank i 2 w (cell-gap z) (omega arith) hi l wrote
           (same-cell (cell-in item (stored m (cell-block i) (cell-word i + 2) w) i) (cell-gap z (cell-in item m i))
-            (ap item (other-part 2 w i 0 (omega arith) (omega arith) (λ y. let y1 = y .1 in omega arith)))
-            (ap (toZ w64) (other-part 2 w i 1 (omega arith) (omega arith) (λ y. let y1 = y .1 in omega arith)))
-            (ap (toZ w64) (same-part 2 w (omega arith) hw ∙ coded) ∙ toZ-ofZ w64 z hz))
+          (ap item (other-part 2 w i 0 (omega arith) (omega arith) (λ y. let y1 = y .1 in omega arith)))
+          (ap (toZ w64) (other-part 2 w i 1 (omega arith) (omega arith) (λ y. let y1 = y .1 in omega arith)))
+          (ap (toZ w64) (same-part 2 w (omega arith) hw ∙ coded) ∙ toZ-ofZ w64 z hz))
 
       pub gap-imaged : Imaged word item n m → Imaged word item n l
       gap-imaged =

@@ -46,7 +46,7 @@ module _ (blank n start : ℕ) where
   fresh-past (suc b) j nz h =
       sym
       (ap (λ c. part c (j % 3)) (getD-past (replicate n (fresh-cell blank)) (21 * b + j / 3) zero-cell (omega (arith, length-replicate n (fresh-cell blank))))
-        ∙ (grind arith))
+      ∙ (grind arith))
 
 -- ---- the model
 
@@ -85,13 +85,13 @@ module _ {X : Type 0} (word-of : X → ℕ) (item : ℕ → X) (blank : X) (law 
       (omega (arith, word-fresh 0 1 (omega arith) (omega arith)))
       (ap (toZ w64) (word-fresh 0 2 (omega arith) (omega arith)))
       (sym
-        (fill-by-all (cell-in item m) (replicate n (fresh-cell blank)) n (fresh-cell blank) (length-replicate n (fresh-cell blank))
-          (λ k h.
-            getD-replicate n k (fresh-cell blank) (fresh-cell blank) h
-            ∙ same-cell (fresh-cell blank) (cell-in item m k)
-              (sym (ap item (part-fresh k 0 h (omega arith) ∙ (let d : word-of blank % 2 ^ 64 ≡ word-of blank = omega arith in d)) ∙ law))
-              (sym (ap (toZ w64) (part-fresh k 1 h (omega arith))))
-              (sym (ap (toZ w64) (part-fresh k 2 h (omega arith)))))))
+      (fill-by-all (cell-in item m) (replicate n (fresh-cell blank)) n (fresh-cell blank) (length-replicate n (fresh-cell blank))
+      (λ k h.
+      getD-replicate n k (fresh-cell blank) (fresh-cell blank) h
+      ∙ same-cell (fresh-cell blank) (cell-in item m k)
+      (sym (ap item (part-fresh k 0 h (omega arith) ∙ (let d : word-of blank % 2 ^ 64 ≡ word-of blank = omega arith in d)) ∙ law))
+      (sym (ap (toZ w64) (part-fresh k 1 h (omega arith))))
+      (sym (ap (toZ w64) (part-fresh k 2 h (omega arith)))))))
 
   pub cleared-model : fit (length m) n ≡ true → block-model item n m ≡ cleared blank n start
   cleared-model fits = model-fit item n m fits ∙ decoded-cleared

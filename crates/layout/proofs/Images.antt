@@ -47,9 +47,14 @@ module _ (f : ℕ → ℕ → ℕ) where
     sum-bytes : (b k : ℕ) → b < blocks → k ≤ 63 → (sum-words (bytes-of f blocks) b k) % 2 ^ 64 ≡ sum-of f b k % 2 ^ 64
     sum-bytes b zero h l = omega (arith, sum-none (bytes-of f blocks) b, sum-of-none f b)
     sum-bytes b (suc k) h l =
-        omega
-          (arith, sum-more (bytes-of f blocks) b k, sum-of-more f b k, sum-bytes b k h (omega arith), word-bytes b k h (omega arith),
-          full-plain f b k (omega arith))
+        omega (
+          arith,
+          sum-more (bytes-of f blocks) b k,
+          sum-of-more f b k,
+          sum-bytes b k h (omega arith),
+          word-bytes b k h (omega arith),
+          full-plain f b k (omega arith),
+        )
 
     -- every block has its check
     pub checked-bytes : (b : ℕ) → b < blocks → Checked (bytes-of f blocks) b
@@ -61,9 +66,13 @@ module _ (f g : ℕ → ℕ → ℕ) (b j : ℕ) (same : (a k : ℕ) → k < 63 
   sum-same : (a k : ℕ) → k ≤ 63 → ((i : ℕ) → i < k → (a ≡ b) × (i ≡ j) → ⊥) → sum-of g a k ≡ sum-of f a k
   sum-same a zero h ne = sum-of-none g a ∙ sym (sum-of-none f a)
   sum-same a (suc k) h ne =
-      omega
-        (arith, sum-of-more f a k, sum-of-more g a k, same a k (omega arith) (ne k (omega arith)),
-        sum-same a k (omega arith) (λ i l. ne i (omega arith)))
+      omega (
+        arith,
+        sum-of-more f a k,
+        sum-of-more g a k,
+        same a k (omega arith) (ne k (omega arith)),
+        sum-same a k (omega arith) (λ i l. ne i (omega arith)),
+      )
 
   -- the two sums past word j
   sum-past : (k : ℕ) → j < k → k ≤ 63 → sum-of g b k + f b j ≡ sum-of f b k + g b j
@@ -73,7 +82,7 @@ module _ (f g : ℕ → ℕ → ℕ) (b j : ℕ) (same : (a k : ℕ) → k < 63 
       let t = sum-of-more g b k in
       ⊎-elim
       (λ (e : k ≡ j).
-        omega (arith, sum-same b k (omega arith) (λ i lt y. let d = y .1 in omega arith), ap (f b) e, ap (g b) e))
+      omega (arith, sum-same b k (omega arith) (λ i lt y. let d = y .1 in omega arith), ap (f b) e, ap (g b) e))
       (λ (e : k ≡ j → ⊥). omega (arith, sum-past k (omega arith) (omega arith), same b k (omega arith) (λ y. e (y .1))))
       (cases-eq k j)
 
@@ -82,9 +91,9 @@ module _ (f g : ℕ → ℕ → ℕ) (b j : ℕ) (same : (a k : ℕ) → k < 63 
       ⊎-elim
       (λ (l : k < 63). full-plain g a k l ∙ same a k l ne ∙ sym (full-plain f a k l))
       (λ (l : 63 ≤ k).
-        full-check g a k l
-        ∙ ap (λ z. (a + 1 + z) % 2 ^ 64) (sum-same a 63 (omega arith) (λ i lt y. nc (y .0, omega arith)))
-        ∙ sym (full-check f a k l))
+      full-check g a k l
+      ∙ ap (λ z. (a + 1 + z) % 2 ^ 64) (sum-same a 63 (omega arith) (λ i lt y. nc (y .0, omega arith)))
+      ∙ sym (full-check f a k l))
       (cases-lt k 63)
 
   module _ (blocks : ℕ) (hb : b < blocks) (hj : j < 63) where
@@ -99,9 +108,15 @@ module _ (f g : ℕ → ℕ → ℕ) (b j : ℕ) (same : (a k : ℕ) → k < 63 
 
     check-is : check ≡ full g b 63
     check-is =
-        omega
-          (arith, word-bytes f blocks b j hb (omega arith), full-plain f b j hj, word-bytes f blocks b 63 hb (omega arith),
-          full-check f b 63 (omega arith), full-check g b 63 (omega arith), sum-past 63 hj (omega arith))
+        omega (
+          arith,
+          word-bytes f blocks b j hb (omega arith),
+          full-plain f b j hj,
+          word-bytes f blocks b 63 hb (omega arith),
+          full-check f b 63 (omega arith),
+          full-check g b 63 (omega arith),
+          sum-past 63 hj (omega arith),
+        )
 
     long : length first ≡ 512 * blocks
     long = length-put old (place b j) (g b j) ∙ length-bytes f blocks
@@ -129,12 +144,12 @@ module _ (f g : ℕ → ℕ → ℕ) (b j : ℕ) (same : (a k : ℕ) → k < 63 
     byte-anywhere a k i ha hk h =
         ⊎-elim
         (λ (x : a ≡ b).
-          ⊎-elim
-          (λ (y : k ≡ j). rw (x, y) (byte-in-word i h))
-          (λ (y : k ≡ j → ⊥).
-            ⊎-elim (λ (z : k ≡ 63). rw (x, z) (byte-in-check i h)) (λ (z : k ≡ 63 → ⊥). byte-elsewhere a k i ha hk h (λ v. y (v .1)) (λ v. z (v .1)))
-            (cases-eq k 63))
-          (cases-eq k j))
+        ⊎-elim
+        (λ (y : k ≡ j). rw (x, y) (byte-in-word i h))
+        (λ (y : k ≡ j → ⊥).
+        ⊎-elim (λ (z : k ≡ 63). rw (x, z) (byte-in-check i h)) (λ (z : k ≡ 63 → ⊥). byte-elsewhere a k i ha hk h (λ v. y (v .1)) (λ v. z (v .1)))
+        (cases-eq k 63))
+        (cases-eq k j))
         (λ (x : a ≡ b → ⊥). byte-elsewhere a k i ha hk h (λ v. x (v .0)) (λ v. x (v .0)))
         (cases-eq a b)
 
@@ -143,7 +158,7 @@ module _ (f g : ℕ → ℕ → ℕ) (b j : ℕ) (same : (a k : ℕ) → k < 63 
     bytes-stored =
         sym
         (fill-by-all (byte-at g) (stored old b j (g b j)) (512 * blocks) 0 (length-stored old b j (g b j) ∙ length-bytes f blocks)
-          (λ k h.
-            let e : k ≡ place (k / 512) (k % 512 / 8) + k % 8 = omega arith in
-            ap (λ z. getD (stored old b j (g b j)) z 0) e
-            ∙ byte-anywhere (k / 512) (k % 512 / 8) (k % 8) (omega arith) (omega arith) (omega arith)))
+        (λ k h.
+        let e : k ≡ place (k / 512) (k % 512 / 8) + k % 8 = omega arith in
+        ap (λ z. getD (stored old b j (g b j)) z 0) e
+        ∙ byte-anywhere (k / 512) (k % 512 / 8) (k % 8) (omega arith) (omega arith) (omega arith)))

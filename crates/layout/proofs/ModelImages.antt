@@ -40,10 +40,10 @@ module _ (m : Contents ℕ) (i p : ℕ) (c : Cell ℕ) (hp : p < 3) (hi : i < si
   plain-other (suc a) k h ne =
       ⊎-elim
       (λ (e : 21 * a + k / 3 ≡ i).
-        ap (λ z. part (getD (set (m .cells) i c) z zero-cell) (k % 3)) e
-        ∙ ap (λ z. part z (k % 3)) (getD-set-same (m .cells) i c zero-cell hi)
-        ∙ same (k % 3) (omega arith) (λ d. ne (omega arith, omega arith))
-        ∙ ap (λ z. part (getD (m .cells) z zero-cell) (k % 3)) (sym e))
+      ap (λ z. part (getD (set (m .cells) i c) z zero-cell) (k % 3)) e
+      ∙ ap (λ z. part z (k % 3)) (getD-set-same (m .cells) i c zero-cell hi)
+      ∙ same (k % 3) (omega arith) (λ d. ne (omega arith, omega arith))
+      ∙ ap (λ z. part (getD (m .cells) z zero-cell) (k % 3)) (sym e))
       (λ (e : 21 * a + k / 3 ≡ i → ⊥). ap (λ z. part z (k % 3)) (getD-set-other (m .cells) i (21 * a + k / 3) c zero-cell e))
       (cases-eq (21 * a + k / 3) i)
 

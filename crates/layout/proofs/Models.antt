@@ -66,17 +66,17 @@ module _ {X : Type 0} (item : ℕ → X) (n : ℕ) (m : List ℕ) where
         (ap (λ h. min h (2 ^ 40)) (counter-stays 1 (omega arith)))
         (ap (toZ w64) (counter-stays 2 (omega arith)))
         (sym
-          (fill-by-all (cell-in item after) (set (decoded item n m .cells) i c) n c
-            (length-set (decoded item n m .cells) i c ∙ size-decoded)
-            (λ k h.
-              ⊎-elim
-              (λ (x : k ≡ i).
-                ap (λ z. getD (set (decoded item n m .cells) i c) z c) x
-                ∙ getD-set-same (decoded item n m .cells) i c c (omega (arith, size-decoded))
-                ∙ sym e ∙ ap (cell-in item after) (sym x))
-              (λ (x : k ≡ i → ⊥).
-                getD-set-other (decoded item n m .cells) i k c c x ∙ cell-decoded c k h ∙ sym (cell-stored-other k x))
-              (cases-eq k i))))
+        (fill-by-all (cell-in item after) (set (decoded item n m .cells) i c) n c
+        (length-set (decoded item n m .cells) i c ∙ size-decoded)
+        (λ k h.
+        ⊎-elim
+        (λ (x : k ≡ i).
+        ap (λ z. getD (set (decoded item n m .cells) i c) z c) x
+        ∙ getD-set-same (decoded item n m .cells) i c c (omega (arith, size-decoded))
+        ∙ sym e ∙ ap (cell-in item after) (sym x))
+        (λ (x : k ≡ i → ⊥).
+        getD-set-other (decoded item n m .cells) i k c c x ∙ cell-decoded c k h ∙ sym (cell-stored-other k x))
+        (cases-eq k i))))
 
   -- the store of a word of block 0 leaves the cells
   module _ (j w : ℕ) (h : j < 63) where
@@ -84,12 +84,12 @@ module _ {X : Type 0} (item : ℕ → X) (n : ℕ) (m : List ℕ) where
     cells-stay =
         sym
         (fill-by-all (cell-in item (stored m 0 j w)) (decoded item n m .cells) n (cell-in item m 0) size-decoded
-          (λ k l.
-            let stays : (r : ℕ) → r < 3 → part-in m k r ≡ part-in (stored m 0 j w) k r =
-              λ r hr. sym (word-stored-other m 0 j w h (cell-block k) (cell-word k + r) (omega arith) (λ y. let y0 = y .0 in omega arith)) in
-            cell-decoded (cell-in item m 0) k l
-            ∙ same-cell (cell-in item m k) (cell-in item (stored m 0 j w) k) (ap item (stays 0 (omega arith)))
-              (ap (toZ w64) (stays 1 (omega arith))) (ap (toZ w64) (stays 2 (omega arith)))))
+        (λ k l.
+        let stays : (r : ℕ) → r < 3 → part-in m k r ≡ part-in (stored m 0 j w) k r =
+        λ r hr. sym (word-stored-other m 0 j w h (cell-block k) (cell-word k + r) (omega arith) (λ y. let y0 = y .0 in omega arith)) in
+        cell-decoded (cell-in item m 0) k l
+        ∙ same-cell (cell-in item m k) (cell-in item (stored m 0 j w) k) (ap item (stays 0 (omega arith)))
+        (ap (toZ w64) (stays 1 (omega arith))) (ap (toZ w64) (stays 2 (omega arith)))))
 
   pub head-stored : (h : ℕ) → h ≤ 2 ^ 40 → 512 ≤ length m → decoded item n (stored m 0 1 h) ≡ with-head (decoded item n m) h
   head-stored h low l =

@@ -77,8 +77,16 @@ digits w = omega arith
 pub word-from-bytes : (m : List ℕ) (at w : ℕ) → ((i : ℕ) → i < 8 → getD m (at + i) 0 ≡ byte-of w i) → word m at ≡ w % 2 ^ 64
 unfolding word
 word-from-bytes m at w h =
-    rw (ap (λ k. getD m k 0) (let e : at ≡ at + 0 = omega arith in e) ∙ h 0 (omega arith), h 1 (omega arith), h 2 (omega arith), h 3 (omega arith),
-      h 4 (omega arith), h 5 (omega arith), h 6 (omega arith), h 7 (omega arith))
+    rw (
+      ap (λ k. getD m k 0) (let e : at ≡ at + 0 = omega arith in e) ∙ h 0 (omega arith),
+      h 1 (omega arith),
+      h 2 (omega arith),
+      h 3 (omega arith),
+      h 4 (omega arith),
+      h 5 (omega arith),
+      h 6 (omega arith),
+      h 7 (omega arith),
+    )
     (digits w)
 
 pub word-put-same : (m : List ℕ) (at w : ℕ) → at + 8 ≤ length m → word (put m at w) at ≡ w % 2 ^ 64
@@ -93,8 +101,16 @@ pub word-same : (m l : List ℕ) (at : ℕ) → ((i : ℕ) → i < 8 → getD m 
 unfolding word
 word-same m l at h =
     let e : at ≡ at + 0 = omega arith in
-    rw (ap (λ k. getD m k 0) e ∙ h 0 (omega arith) ∙ ap (λ k. getD l k 0) (let d : at + 0 ≡ at = omega arith in d), h 1 (omega arith),
-      h 2 (omega arith), h 3 (omega arith), h 4 (omega arith), h 5 (omega arith), h 6 (omega arith), h 7 (omega arith))
+    rw (
+      ap (λ k. getD m k 0) e ∙ h 0 (omega arith) ∙ ap (λ k. getD l k 0) (let d : at + 0 ≡ at = omega arith in d),
+      h 1 (omega arith),
+      h 2 (omega arith),
+      h 3 (omega arith),
+      h 4 (omega arith),
+      h 5 (omega arith),
+      h 6 (omega arith),
+      h 7 (omega arith),
+    )
 
 pub word-put-other : (m : List ℕ) (at w k : ℕ) → Apart at k → word (put m at w) k ≡ word m k
 word-put-other m at w k a =

@@ -15,9 +15,9 @@ pub apart : (a k b j : ℕ) → k < 64 → j < 64 → ((a ≡ b) × (k ≡ j) �
 apart a k b j h l ne =
     ⊎-elim
     (λ (e : a ≡ b).
-      ⊎-elim (λ (d : k ≡ j). absurd (ne (e, d)))
-      (λ d. ⊎-elim (λ (x : k < j). inr (omega arith)) (λ (x : j < k). inl (omega arith)) d)
-      (cases-order k j))
+    ⊎-elim (λ (d : k ≡ j). absurd (ne (e, d)))
+    (λ d. ⊎-elim (λ (x : k < j). inr (omega arith)) (λ (x : j < k). inl (omega arith)) d)
+    (cases-order k j))
     (λ e. ⊎-elim (λ (x : a < b). inr (omega arith)) (λ (x : b < a). inl (omega arith)) e)
     (cases-order a b)
 

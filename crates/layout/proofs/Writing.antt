@@ -23,15 +23,15 @@ module _ (f : ℕ → ℕ → ℕ) where
   written-more m l b j w k h room e p q before i lt =
       ap (λ x. getD x i 0) p
       ∙ ⊎-elim
-        (λ (x : i < place b j). byte-put-other m (place b j) w i (inl x) ∙ before i x)
-        (λ (x : place b j ≤ i).
-          let d : i ≡ place b j + (i - place b j) = omega arith in
-          ap (λ z. getD (put m (place b j) w) z 0) d
-          ∙ byte-put m (place b j) w room (i - place b j) (omega arith)
-          ∙ ap (λ z. byte-of z (i - place b j)) e
-          ∙ sym (byte-at-place f b j (i - place b j) h (omega arith))
-          ∙ ap (byte-at f) (sym d))
-        (cases-lt i (place b j))
+      (λ (x : i < place b j). byte-put-other m (place b j) w i (inl x) ∙ before i x)
+      (λ (x : place b j ≤ i).
+      let d : i ≡ place b j + (i - place b j) = omega arith in
+      ap (λ z. getD (put m (place b j) w) z 0) d
+      ∙ byte-put m (place b j) w room (i - place b j) (omega arith)
+      ∙ ap (λ z. byte-of z (i - place b j)) e
+      ∙ sym (byte-at-place f b j (i - place b j) h (omega arith))
+      ∙ ap (byte-at f) (sym d))
+      (cases-lt i (place b j))
 
   pub written-all : (m : List ℕ) (blocks : ℕ) → length m ≡ 512 * blocks → Written f m (512 * blocks) → m ≡ bytes-of f blocks
   written-all m blocks e h = fill-by-all (byte-at f) m (512 * blocks) 0 e h

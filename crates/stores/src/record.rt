@@ -5,14 +5,15 @@ use crate::refusal::StoreFaultRefusal;
 use crate::slices;
 use crate::store::Store;
 use items::ItemKind;
-ghost use mathlib.Core.Path.{_≡_};
 ghost use mathlib.Core.Bool.{false};
+ghost use mathlib.Core.Path.{_≡_};
 ghost use denote.Ref.{name, now};
 ghost use lib.ListN.{length};
 ghost use Rattle.stores.specs.Model.{fresh-cell};
 ghost use Rattle.stores.specs.Records.{record-model, record-bound, records-fit, records, made-model};
 
 const MAX_CELLS: usize = 65_536;
+
 const MAX_HEAD: u64 = 1 << 40;
 
 #[derive(Drop)]
@@ -73,11 +74,19 @@ pub impl<'a, I: ItemKind> Store for RecordMemory<'a, I> as RecordMemoryStore {
     ghost lender = { λ s. name (s .cells) };
 
     fn cells(&self) -> usize {
-        if fits(self.cells.len()) { self.cells.len() } else { 0 }
+        if fits(self.cells.len()) {
+            self.cells.len()
+        } else {
+            0
+        }
     }
 
     fn head(&self) -> u64 {
-        if fits(self.cells.len()) { self.head.min(MAX_HEAD) } else { 0 }
+        if fits(self.cells.len()) {
+            self.head.min(MAX_HEAD)
+        } else {
+            0
+        }
     }
 
     fn end_mark(&self) -> i64 {

@@ -16,17 +16,18 @@ unfolding example-bytes
 returns c =
     record {
       fit = λ d e.
-        let made = c .new-store .ensures .model ∙ ap (λ k. cond (fit k (c .args .n)) (cleared zero-reading (c .args .n) 0) no-contents) e
+          let made = c .new-store .ensures .model ∙ ap (λ k. cond (fit k (c .args .n)) (cleared zero-reading (c .args .n) 0) no-contents) e
           ∙ ap (λ k. cond (fit 1536 k) (cleared zero-reading k 0) no-contents) d in
-        let done = c .fill .ensures .filled made in
-        let bytes : c .fill .last .store .mem .now ≡ example-bytes =
+          let done = c .fill .ensures .filled made in
+          let bytes : c .fill .last .store .mem .now ≡ example-bytes =
           imaged-bytes reading-of (c .fill .last .store .n) (c .fill .last .store .mem .now) reading-word example-contents (lit< tt)
           (c .fill .ensures .image (c .new-store .ensures .image)) (done .1) in
-        (done .0, search needs);
+          (done .0, search needs);
       unfit = λ d ne.
-        let off : fit (length (c .args .mem .now)) (c .args .n) ≡ false =
+          let off : fit (length (c .args .mem .now)) (c .args .n) ≡ false =
           ap (fit (length (c .args .mem .now))) d ∙ ne-eqb (length (c .args .mem .now)) 1536 ne in
-        let none = ap size (c .new-store .ensures .model ∙ cond-false (fit (length (c .args .mem .now)) (c .args .n)) _ _ off) in
-        let same = c .fill .ensures .none none in
-        let left : c .fill .last .store .mem .now ≡ c .args .mem .now = ap (λ s. s .mem .now) (same .0) ∙ c .new-store .ensures .alone off in
-        (search needs, same .1) }
+          let none = ap size (c .new-store .ensures .model ∙ cond-false (fit (length (c .args .mem .now)) (c .args .n)) _ _ off) in
+          let same = c .fill .ensures .none none in
+          let left : c .fill .last .store .mem .now ≡ c .args .mem .now = ap (λ s. s .mem .now) (same .0) ∙ c .new-store .ensures .alone off in
+          (search needs, same .1);
+    }

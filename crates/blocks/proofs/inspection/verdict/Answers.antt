@@ -5,4 +5,5 @@ pub returns : need.returns
 returns c =
     record {
       verdict = c .check-blocks .ensures;
-      image = λ s i. image-passes (c .args .mem .now) (c .args .n) s (c .check-blocks .result) i (c .check-blocks .ensures) }
+      image = λ s i. image-passes (c .args .mem .now) (c .args .n) s (c .check-blocks .result) i (c .check-blocks .ensures);
+    }

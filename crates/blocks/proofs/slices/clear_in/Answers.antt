@@ -10,5 +10,6 @@ pub returns : need.returns
 returns g c =
     record {
       model = c .write-cleared .ensures .model
-        ∙ ap (λ k. cleared (g .I·ItemKind .blank) k (c .args .start)) (size-fit (g .I·ItemKind .item) (c .args .n) (c .args .mem .now) (fit-some (g .I·ItemKind .item) (c .args .n) (c .args .mem .now) 0 (c .pre .some)));
-      image = c .write-cleared .ensures .image }
+          ∙ ap (λ k. cleared (g .I·ItemKind .blank) k (c .args .start)) (size-fit (g .I·ItemKind .item) (c .args .n) (c .args .mem .now) (fit-some (g .I·ItemKind .item) (c .args .n) (c .args .mem .now) 0 (c .pre .some)));
+      image = c .write-cleared .ensures .image;
+    }

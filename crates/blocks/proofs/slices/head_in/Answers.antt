@@ -8,8 +8,9 @@ pub returns-then-is-fit : need.returns-then-is-fit
 returns-then-is-fit g c =
     record {
       value = c .min .ensures ∙ ap (λ w. min w (2 ^ 40)) (c .word-at .ensures)
-        ∙ head-fit (g .I·ItemKind .item) (c .args .n) (c .args .mem .now) (sym (c .if-is-fit .ensures tt));
-      bound = omega arith }
+          ∙ head-fit (g .I·ItemKind .item) (c .args .n) (c .args .mem .now) (sym (c .if-is-fit .ensures tt));
+      bound = omega arith;
+    }
 
 pub returns-else-is-fit : need.returns-else-is-fit
 returns-else-is-fit g c =

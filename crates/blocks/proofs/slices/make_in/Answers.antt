@@ -11,4 +11,5 @@ returns-else-is-fit g c =
     record {
       model = model-unfit (g .I·ItemKind .item) (c .args .n) (c .args .mem .now) unfit ∙ sym (cond-false (fit (length (c .args .mem .now)) (c .args .n)) _ _ unfit);
       image = imaged-unfit (g .I·ItemKind .item) (c .args .n) (c .args .mem .now) (g .I·ItemKind .word) unfit;
-      alone = λ _. refl }
+      alone = λ _. refl;
+    }

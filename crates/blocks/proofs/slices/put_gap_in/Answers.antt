@@ -13,9 +13,10 @@ put-part-requires g c κs = record { block = room (g .I·ItemKind .item) (c .arg
 pub returns : need.returns
 returns g c =
     let coded : c .cast-unsigned .result ≡ ofZ w64 (c .args .gap) =
-      c .cast-unsigned .ensures ∙ ap (ofZ w64) (toZ-ofZ w64 (c .args .gap) (c .fits .gap)) in
+    c .cast-unsigned .ensures ∙ ap (ofZ w64) (toZ-ofZ w64 (c .args .gap) (c .fits .gap)) in
     record {
       model = gap-model (g .I·ItemKind .word) (g .I·ItemKind .item) (c .args .n) (c .args .mem .now) (g .I·ItemKind .blank) (c .args .i) (c .pre) _ (c .args .gap) (c .cast-unsigned .result) (c .fits .gap)
-        (c .cast-unsigned .ok) coded (c .put-part .ensures);
+          (c .cast-unsigned .ok) coded (c .put-part .ensures);
       image = gap-imaged (g .I·ItemKind .word) (g .I·ItemKind .item) (c .args .n) (c .args .mem .now) (g .I·ItemKind .blank) (c .args .i) (c .pre) _ (c .args .gap) (c .cast-unsigned .result) (c .fits .gap)
-        (c .cast-unsigned .ok) coded (c .put-part .ensures) }
+          (c .cast-unsigned .ok) coded (c .put-part .ensures);
+    }

@@ -10,6 +10,7 @@ pub returns : need.returns
 returns g c =
     record {
       model = item-model (g .I·ItemKind .word) (g .I·ItemKind .item) (c .args .n) (c .args .mem .now) (g .I·ItemKind .blank) (c .args .i) (c .pre) _ (c .args .item) (c .encode .result) (c .encode .ok) (c .encode .ensures .value)
-        (c .encode .ensures .law) (c .put-part .ensures);
+          (c .encode .ensures .law) (c .put-part .ensures);
       image = item-imaged (g .I·ItemKind .word) (g .I·ItemKind .item) (c .args .n) (c .args .mem .now) (g .I·ItemKind .blank) (c .args .i) (c .pre) _ (c .args .item) (c .encode .result) (c .encode .ok) (c .encode .ensures .value)
-        (c .encode .ensures .law) (c .put-part .ensures) }
+          (c .encode .ensures .law) (c .put-part .ensures);
+    }

@@ -15,9 +15,10 @@ store-word-requires g c κs =
 pub returns : need.returns
 returns g c =
     let coded : c .cast-unsigned .result ≡ ofZ w64 (c .args .mark) =
-      c .cast-unsigned .ensures ∙ ap (ofZ w64) (toZ-ofZ w64 (c .args .mark) (c .fits .mark)) in
+    c .cast-unsigned .ensures ∙ ap (ofZ w64) (toZ-ofZ w64 (c .args .mark) (c .fits .mark)) in
     record {
       model = end-model (g .I·ItemKind .word) (g .I·ItemKind .item) (c .args .n) (c .args .mem .now) (c .pre) _ (c .args .mark) (c .cast-unsigned .result) (c .fits .mark) (c .cast-unsigned .ok) coded
-        (c .store-word .ensures);
+          (c .store-word .ensures);
       image = end-imaged (g .I·ItemKind .word) (g .I·ItemKind .item) (c .args .n) (c .args .mem .now) (c .pre) _ (c .args .mark) (c .cast-unsigned .result) (c .fits .mark) (c .cast-unsigned .ok) coded
-        (c .store-word .ensures) }
+          (c .store-word .ensures);
+    }

@@ -12,4 +12,5 @@ pub returns : need.returns
 returns g c =
     record {
       model = head-model (g .I·ItemKind .word) (g .I·ItemKind .item) (c .args .n) (c .args .mem .now) (c .pre .some) _ (c .args .head) (c .pre .low) (c .store-word .ensures);
-      image = head-imaged (g .I·ItemKind .word) (g .I·ItemKind .item) (c .args .n) (c .args .mem .now) (c .pre .some) _ (c .args .head) (c .pre .low) (c .store-word .ensures) }
+      image = head-imaged (g .I·ItemKind .word) (g .I·ItemKind .item) (c .args .n) (c .args .mem .now) (c .pre .some) _ (c .args .head) (c .pre .low) (c .store-word .ensures);
+    }

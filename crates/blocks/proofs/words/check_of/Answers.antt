@@ -9,8 +9,8 @@ use Rattle.blocks.proofs.words.check_of.Needs as need
 pub loop-j-again : need.loop-j-again
 loop-j-again c =
     let s : sum-words (c .args .mem .now) (c .args .b) (c .loop-j .j + 1)
-        ≡ sum-words (c .args .mem .now) (c .args .b) (c .loop-j .j) + c .word-at-sum .result =
-      rw add-one (omega (arith, sum-more (c .args .mem .now) (c .args .b) (c .loop-j .j))) in
+    ≡ sum-words (c .args .mem .now) (c .args .b) (c .loop-j .j) + c .word-at-sum .result =
+    rw add-one (omega (arith, sum-more (c .args .mem .now) (c .args .b) (c .loop-j .j))) in
     omega arith
 
 pub loop-j-holds : need.loop-j-holds

@@ -15,5 +15,5 @@ returns c =
     let fresh = cleared (c .args .self .blank) (c .args .self .cells) (c .args .self .start) in
     let n = length-replicate (c .args .self .cells) (fresh-cell (c .args .self .blank)) in
     written-all (plain fresh) (c .loop-b .mem) (blocks-for (c .args .self .cells)) (c .loop-b .kept .mem ∙ f .whole)
-      (λ i h. c .loop-b .inv i (omega arith))
+    (λ i h. c .loop-b .inv i (omega arith))
     ∙ ap (λ k. bytes-of (plain fresh) (blocks-for k)) (sym n)

@@ -19,10 +19,11 @@ loop-j-again c =
     let f : ℕ → ℕ → ℕ = plain (cleared (c .args .self .blank) (c .args .self .cells) (c .args .self .start)) in
     let w = c .word-w .ensures ∙ sym (full-plain f (c .args .b) (c .loop-j .j) (c .loop-j-test .taken)) in
     let more : sum-of f (c .args .b) (c .loop-j .j + 1) ≡ sum-of f (c .args .b) (c .loop-j .j) + c .word-w .result =
-      rw add-one (sum-of-more f (c .args .b) (c .loop-j .j) ∙ ap (λ x. sum-of f (c .args .b) (c .loop-j .j) + x) (sym (c .word-w .ensures))) in
-    (written-more f (c .loop-j .mem) (c .put-word .last .mem) (c .args .b) (c .loop-j .j) (c .word-w .result) _ (omega arith) (omega arith) w
-      (c .put-word .ensures) (omega arith) (c .loop-j .inv .0),
-    omega (arith, c .loop-j .inv .1))
+    rw add-one (sum-of-more f (c .args .b) (c .loop-j .j) ∙ ap (λ x. sum-of f (c .args .b) (c .loop-j .j) + x) (sym (c .word-w .ensures))) in (
+      written-more f (c .loop-j .mem) (c .put-word .last .mem) (c .args .b) (c .loop-j .j) (c .word-w .result) _ (omega arith) (omega arith) w
+          (c .put-word .ensures) (omega arith) (c .loop-j .inv .0),
+      omega (arith, c .loop-j .inv .1),
+    )
 
 pub returns : need.returns
 returns c =
