@@ -6,10 +6,13 @@ use blocks::BlockMemory;
 use blocks::fits;
 use items::ItemKind;
 use items::Notice;
+use items::NoticeDebug;
 use items::NoticeKind;
+use items::NoticePartialEq;
 use items::Reading;
 use items::ReadingKind;
 use std::test::*;
+ghost use mathlib.Core.Path.{_≡_};
 
 // Word 63 of the block that begins at `at`.
 fn check_word(mem: &[u8], at: usize) -> Option<u64> {
@@ -30,6 +33,19 @@ fn checks_of_fresh_blocks() -> Result<(), Fail> {
     let _ = BlockMemory::<Reading>::new(&mut many, 21);
     check_eq(check_word(&many, 0), Some(21))?;
     check_eq(check_word(&many, 512), Some(18446744073709551576))
+}
+
+// The law of a kind, used by code that knows only the trait.
+fn through_its_word<I: ItemKind>(item: I) -> I
+    ensures { λ r. ⌜ r ≡ item ⌝ }
+{
+    I::decode(item.encode())
+}
+
+#[test]
+fn an_item_goes_through_its_word() -> Result<(), Fail> {
+    let notice = Notice::SilentProbe { probe: 65_535 };
+    check_eq(through_its_word(notice), notice)
 }
 
 #[test]
