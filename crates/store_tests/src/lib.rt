@@ -1,4 +1,6 @@
-// Tests of item kinds, record memory and block memory on examples.
+// Tests of item kinds, of both memories and of arranged stores on examples.
+#[cfg(test)]
+mod arranged;
 #[cfg(test)]
 mod figures;
 #[cfg(test)]
