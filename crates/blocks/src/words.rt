@@ -1,9 +1,9 @@
 // Words in bytes, and the check of a block.
 ghost use mathlib.Core.Path.{_≡_};
-ghost use Prim.Native.Nat.{_+_, _*_, _≤_, _<_};
+ghost use Prim.Native.Nat.{_+_, _*_, _%_, _^_, _≤_, _<_};
 ghost use lib.ListN.{length};
 ghost use Rattle.layout.specs.Words.{word, put};
-ghost use Rattle.layout.specs.Blocks.{place, check-of, stored};
+ghost use Rattle.layout.specs.Blocks.{place, sum-words, check-of, stored};
 
 pub(crate) const BLOCK_BYTES: usize = 512;
 // The word of a block that is its check.
@@ -25,16 +25,24 @@ pub(crate) fn word_at(mem: &[u8], at: usize) -> u64
     ])
 }
 
+// The sum of the words of block `b` before its check, modulo 2^64.
+fn sum_words(mem: &[u8], b: usize) -> u64
+    requires { ⌜ 512 * b + 512 ≤ length (now mem) ⌝ }
+    ensures { λ r. ⌜ r ≡ sum-words (now (mem .entry)) b 63 % 2 ^ 64 ⌝ }
+{
+    let mut sum = 0u64;
+    for j in 0..CHECK_WORD {
+        sum = sum.wrapping_add(word_at(mem, BLOCK_BYTES * b + 8 * j));
+    }
+    sum
+}
+
 // The check that block `b` has to have.
 pub(crate) fn check_of(mem: &[u8], b: usize) -> u64
     requires { ⌜ 512 * b + 512 ≤ length (now mem) ⌝ }
     ensures { λ r. ⌜ r ≡ check-of (now (mem .entry)) b ⌝ }
 {
-    let mut sum = (b as u64).wrapping_add(1);
-    for j in 0..CHECK_WORD {
-        sum = sum.wrapping_add(word_at(mem, BLOCK_BYTES * b + 8 * j));
-    }
-    sum
+    sum_words(mem, b).wrapping_add(b as u64).wrapping_add(1)
 }
 
 pub(crate) fn put_word(mem: &mut [u8], at: usize, w: u64)

@@ -4,7 +4,7 @@ use native.Mathlib.Numerals.{add-one}
 use Prim.Native.Nat.{_+_}
 use Rattle.layout.specs.Blocks.{sum-words}
 use Rattle.layout.proofs.Sums.{sum-none, sum-more}
-use Rattle.blocks.proofs.words.check_of.Needs as need
+use Rattle.blocks.proofs.words.sum_words.Needs as need
 
 pub loop-j-again : need.loop-j-again
 loop-j-again c =
