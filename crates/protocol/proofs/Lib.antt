@@ -1,0 +1,17 @@
+pub mod Tables
+pub mod Counts
+pub mod Invariant
+pub mod Ring
+pub mod Ranks
+pub mod Workers
+pub mod Kept
+pub mod Runs
+pub mod Always
+pub mod FreeCell
+pub mod Announcing
+pub mod Finishing
+pub mod Whole
+pub mod CallSteps
+pub mod Lives
+pub mod Filling
+pub mod LifePromised

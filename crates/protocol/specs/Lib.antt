@@ -1,0 +1,10 @@
+pub mod Tests
+pub mod Records
+pub mod Rules
+pub mod State
+pub mod Events
+pub mod Steps
+pub mod Account
+pub mod Promise
+pub mod Lives
+pub mod Views

@@ -1,0 +1,4 @@
+pub mod Receiving
+pub mod Finding
+pub mod Working
+pub mod Table

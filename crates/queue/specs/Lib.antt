@@ -1,0 +1,5 @@
+pub mod Faults
+pub mod Pending
+pub mod Receivers
+pub mod Logs
+pub mod Workers
