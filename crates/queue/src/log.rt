@@ -20,6 +20,12 @@ pub struct Log<'a, I> {
 pub fn find<I>(entries: &[Entry<I>], rank: u64) -> Option<&Entry<I>>
     ensures { λ r. ⌜ mapped now r ≡ first-under rank (now (entries .entry)) ⌝ }
 {
+    first_under(entries, rank)
+}
+
+fn first_under<I>(entries: &[Entry<I>], rank: u64) -> Option<&Entry<I>>
+    ensures { λ r. ⌜ mapped now r ≡ first-under rank (now (entries .entry)) ⌝ }
+{
     for e in entries {
         if e.rank == rank {
             return Some(e);

@@ -2,7 +2,7 @@ use mathlib.Core.Path.{sym, ap, _∙_}
 use Rattle.std.proofs.shelf.Lists.{drop-all}
 use Rattle.queue.specs.Logs.{first-under}
 use Rattle.queue.proofs.Finding.{found-here, found-later}
-use Rattle.queue.proofs.log.find.Needs as need
+use Rattle.queue.proofs.log.first_under.Needs as need
 
 pub returns-then-e-rank : need.returns-then-e-rank
 returns-then-e-rank g c =
