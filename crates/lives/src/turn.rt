@@ -16,18 +16,18 @@ use queue::Refused;
 use queue::worker_step;
 use stores::Refusal;
 use stores::Store;
-ghost use mathlib.Core.Path.{_≡_};
-ghost use mathlib.Core.List.{List};
-ghost use denote.Ref.{name};
-ghost use Rattle.stores.specs.Model.{Contents};
-ghost use Rattle.protocol.specs.Records.{Receiver as ReceiverRecord, Log as LogRecord};
-ghost use Rattle.protocol.specs.State.{Permit, free, full};
-ghost use Rattle.protocol.specs.Lives.{left-by};
-ghost use Rattle.protocol.specs.declared.answer.Call.the-variants.{Submit, Withdraw, ReceiverStep as StepCall, WorkerStep, Close};
-ghost use Rattle.queue.specs.Receivers.{receiver-view, step-said};
-ghost use Rattle.queue.specs.Logs.{log-view};
 ghost use Rattle.lives.specs.Permits.{permit-of};
 ghost use Rattle.lives.specs.Turns.{queue-of, Makes};
+ghost use Rattle.protocol.specs.Lives.{left-by};
+ghost use Rattle.protocol.specs.Records.{Receiver as ReceiverRecord, Log as LogRecord};
+ghost use Rattle.protocol.specs.State.{Permit, free, full};
+ghost use Rattle.protocol.specs.declared.answer.Call.the-variants.{Submit, Withdraw, ReceiverStep as StepCall, WorkerStep, Close};
+ghost use Rattle.queue.specs.Logs.{log-view};
+ghost use Rattle.queue.specs.Receivers.{receiver-view, step-said};
+ghost use Rattle.stores.specs.Model.{Contents};
+ghost use denote.Ref.{name};
+ghost use mathlib.Core.List.{List};
+ghost use mathlib.Core.Path.{_≡_};
 
 // The permit after a call, and its answer.
 pub(crate) struct Turn<I> {

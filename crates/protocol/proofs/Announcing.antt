@@ -1,4 +1,4 @@
--- An item submitted while u cells are used, u below n, is announced within 2u + 3 accepted receiver steps.
+-- The bound on announcing: a free cell is near the tail, and each step of the receiver comes nearer to it.
 use mathlib.Core.Path.{_≡_, refl, sym, _∙_, ap, subst}
 use mathlib.Core.Logic.{_⊎_, inl, inr}
 use mathlib.Core.Bool.{true, false}

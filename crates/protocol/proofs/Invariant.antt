@@ -67,7 +67,7 @@ WorkerFits n cells skipped Copied w h = (h ≡ Some (w .rank)) × (cells (w .ran
 abbrev pub Workers : {X : Type 0} → ℕ → (ℕ → Cell X) → List ℕ → (ℕ → Worker X) → (ℕ → Option ℕ) → Type 0
 Workers n cells skipped ws held = (k : ℕ) → WorkerFits n cells skipped (ws k .phase) (ws k) (held k)
 
--- the receiver's phase against the cell of its tail (c) and its hand (h)
+-- the receiver's phase against the cell of its tail, c, and its hand, h
 abbrev pub ReceiverFits : {X : Type 0} → Cell X → Option X → ReceiverPhase → Type 0
 ReceiverFits c h Probing = Unit {0}
 ReceiverFits c h Busy = Unit {0}

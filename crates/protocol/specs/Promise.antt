@@ -35,7 +35,7 @@ module _ {X : Type 0} where
   abbrev pub entry : ℕ → ℕ → X → Entry X
   entry r k x = record { rank = r; worker = k; item = x }
 
-  -- x stands unaltered under its rank r in its cell, and is in no log entry
+  -- the cell of r has the rank r and the very item x, which is in no log entry
   abbrev pub InCell : ℕ → (ℕ → Cell X) → List (Entry X) → ℕ → X → Type 0
   InCell n cells log r x = (cells (r % n) .rank ≡ pos r) × (cells (r % n) .item ≡ x) × (times r log ≡ 0)
 
@@ -66,7 +66,7 @@ module _ {X : Type 0} where
     -- a log entry holds the item announced under its rank, and no rank is logged twice
     pub log-entry : (e : Entry X) → In e (s .log) → In (announcement (e .rank) (e .item)) (a .announced)
     pub logged-once : (r : ℕ) → times r (s .log) ≤ 1
-    -- the log is the list of deliveries in their order, each with its worker
+    -- the log has the deliveries one after the other, with their workers
     pub log-is : s .log ≡ a .delivered
     -- a holder's record is not idle and has its rank; the other workers are idle
     pub holder : (k r : ℕ) → a .held k ≡ Some r → (¬ (s .workers k .phase ≡ Idle)) × (s .workers k .rank ≡ r)

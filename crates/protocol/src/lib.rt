@@ -12,3 +12,4 @@ pub use record::Entry;
 pub use record::ReceiverPhase;
 pub use record::Worker;
 pub use record::WorkerPhase;
+pub use theorem::whole_life;

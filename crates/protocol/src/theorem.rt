@@ -2,7 +2,7 @@
 ghost use Rattle.protocol.specs.Promise.{WholeLife};
 
 // The promise stands for every type of items; this function's contract says so of T, and it does nothing else.
-fn whole_life<T>(x: T) -> T
+pub fn whole_life<T>(x: T) -> T
     ensures { λ _. ⌜ WholeLife T ⌝ }
 {
     x

@@ -10,15 +10,15 @@ use crate::receiver::Receiver;
 use items::ItemKind;
 use protocol::ReceiverPhase;
 use stores::Store;
-ghost use mathlib.Core.Path.{_≡_};
 ghost use Prim.Native.Nat.{_<_};
-ghost use Rattle.std.specs.declared.result.Result.the-variants.{Ok};
-ghost use Rattle.std.specs.Results.{Cases};
-ghost use Rattle.stores.specs.Model.{size};
-ghost use Rattle.protocol.specs.declared.record.ReceiverPhase.the-variants.{Probing, Busy, Found, Filled};
 ghost use Rattle.protocol.specs.Rules.{step-in, receiver-step};
+ghost use Rattle.protocol.specs.declared.record.ReceiverPhase.the-variants.{Probing, Busy, Found, Filled};
 ghost use Rattle.queue.specs.Faults.{queue-reason, Own};
 ghost use Rattle.queue.specs.Receivers.{receiver-view, step-said, step-answer};
+ghost use Rattle.std.specs.Results.{Cases};
+ghost use Rattle.std.specs.declared.result.Result.the-variants.{Ok};
+ghost use Rattle.stores.specs.Model.{size};
+ghost use mathlib.Core.Path.{_≡_};
 
 // No rank is announced or skipped from here on.
 const LIMIT: u64 = 1 << 40;

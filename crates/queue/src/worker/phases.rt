@@ -10,18 +10,18 @@ use protocol::Worker;
 use protocol::WorkerAnswer;
 use protocol::WorkerPhase;
 use stores::Store;
-ghost use mathlib.Core.Path.{_≡_};
 ghost use Prim.Native.Nat.{ℕ, _+_, _<_, _≤_};
-ghost use Rattle.std.specs.declared.result.Result.the-variants.{Ok};
-ghost use Rattle.std.specs.Results.{Cases};
-ghost use Rattle.stores.specs.Model.{size, with-head};
-ghost use Rattle.protocol.specs.declared.record.WorkerPhase.the-variants.{Idle, Seeking, Doubting, Marked, Passed, Sure, Copied};
-ghost use Rattle.protocol.specs.Tests.{limit};
 ghost use Rattle.protocol.specs.Records.{Log as LogRecord};
 ghost use Rattle.protocol.specs.Rules.{refusal, work-in};
+ghost use Rattle.protocol.specs.Tests.{limit};
+ghost use Rattle.protocol.specs.declared.record.WorkerPhase.the-variants.{Idle, Seeking, Doubting, Marked, Passed, Sure, Copied};
 ghost use Rattle.queue.specs.Faults.{queue-reason, Carries};
 ghost use Rattle.queue.specs.Logs.{log-view, log-lender};
 ghost use Rattle.queue.specs.Workers.{moved-view, moved-answer};
+ghost use Rattle.std.specs.Results.{Cases};
+ghost use Rattle.std.specs.declared.result.Result.the-variants.{Ok};
+ghost use Rattle.stores.specs.Model.{size, with-head};
+ghost use mathlib.Core.Path.{_≡_};
 
 // What a step makes of a worker's record, and its answer.
 #[derive(Drop)]
