@@ -1,7 +1,7 @@
 // The log of deliveries, in entries that the caller lends.
 use protocol::Entry;
 ghost use mathlib.Core.Path.{_≡_};
-ghost use Prim.Native.Nat.{_+_, _<_};
+ghost use Prim.Native.Nat.{_+_, _<_, min};
 ghost use lib.Dec.{leb};
 ghost use lib.ListN.{length, set, take};
 ghost use denote.Ref.{name};
@@ -59,11 +59,12 @@ impl<'a, I: Copy> Log<'a, I> {
         Log { entries, count: 0 }
     }
 
-    // How many deliveries there are.
+    // How many entries are kept.
     pub fn count(&self) -> usize
-        ensures value { λ r. ⌜ r ≡ log-view (now (self .entry)) .count ⌝ }
+        ensures value { λ r. ⌜ r ≡ min (log-view (now (self .entry)) .count) (length (log-view (now (self .entry)) .entries)) ⌝ }
+        ensures same { λ _. ⌜ now (self .exit) ≡ now (self .entry) ⌝ }
     {
-        self.count
+        self.count.min(self.entries.len())
     }
 
     // The first of the kept entries under a rank.
