@@ -57,6 +57,6 @@ Carries reason layer (NoSuchWorker k) = Unit {0}
 Carries reason layer (Below f) = reason f ≡ reason-by layer 6 0
 
 -- why a call is refused, if it is
-abbrev pub fault-of : {V F : Type 0} → (F → Reason) → Result V F → Option Reason
-fault-of reason (Ok v) = None
-fault-of reason (Err f) = Some (reason f)
+abbrev pub reason-of : {V F : Type 0} → (F → Reason) → Result V F → Option Reason
+reason-of reason (Ok v) = None
+reason-of reason (Err f) = Some (reason f)

@@ -1,6 +1,5 @@
 -- What the receiver's calls are about: its record without the bound, and answers without permits.
 use lib.IntN.{ℤ}
-use Prim.Native.Nat.{ℕ}
 use Rattle.std.specs.declared.option.Option.{Option}
 use Rattle.std.specs.declared.option.Option.the-variants.{Some, None}
 use Rattle.std.specs.declared.result.Result.{Result}

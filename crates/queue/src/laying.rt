@@ -1,6 +1,5 @@
 // Lays a queue out.
 use crate::fault::QueueFault;
-use crate::fault::QueueFaultRefusal;
 use crate::log::Log;
 use crate::permit::FreePermit;
 use crate::receiver::Receiver;
@@ -13,7 +12,7 @@ ghost use mathlib.Core.Path.{_≡_};
 ghost use Rattle.std.specs.Results.{Cases};
 ghost use Rattle.stores.specs.Model.{size, cleared};
 ghost use Rattle.protocol.specs.Rules.{no-lay-out, laid-receiver, idled, emptied-log, unless};
-ghost use Rattle.queue.specs.Faults.{queue-reason, fault-of, Own};
+ghost use Rattle.queue.specs.Faults.{queue-reason, reason-of, Own};
 ghost use Rattle.queue.specs.Logs.{log-view, log-lender};
 ghost use Rattle.queue.specs.Receivers.{receiver-view};
 
@@ -29,7 +28,7 @@ pub fn lay_out<I: ItemKind, S: Store<Item = I>>(
     log: &mut Log<'_, I>,
     start: u64,
 ) -> Result<FreePermit, QueueFault<S::Fault>>
-    ensures answer { λ r. ⌜ fault-of (queue-reason (Fault·Refusal .reason)) r ≡ no-lay-out (S·Store .model (now (store .entry))) (now (workers .entry)) start ⌝ }
+    ensures answer { λ r. ⌜ reason-of (queue-reason (Fault·Refusal .reason)) r ≡ no-lay-out (S·Store .model (now (store .entry))) (now (workers .entry)) start ⌝ }
     ensures own { λ r. ⌜ Cases r (λ _. Unit {0}) Own ⌝ }
     ensures receiver { λ _. ⌜ receiver-view (now (receiver .exit)) ≡ unless (no-lay-out (S·Store .model (now (store .entry))) (now (workers .entry)) start) (laid-receiver start) (receiver-view (now (receiver .entry))) ⌝ }
     ensures workers { λ _. ⌜ now (workers .exit) ≡ unless (no-lay-out (S·Store .model (now (store .entry))) (now (workers .entry)) start) (map idled (now (workers .entry))) (now (workers .entry)) ⌝ }

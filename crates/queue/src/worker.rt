@@ -1,6 +1,5 @@
 // A worker's step.
 use crate::fault::QueueFault;
-use crate::fault::QueueFaultRefusal;
 use crate::log::Log;
 use crate::worker::phases::Moved;
 use crate::worker::phases::step_in_phase;

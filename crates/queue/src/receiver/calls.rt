@@ -1,6 +1,5 @@
 // The receiver's calls.
 use crate::fault::QueueFault;
-use crate::fault::QueueFaultRefusal;
 use crate::numbers;
 use crate::permit::FreePermit;
 use crate::permit::FullPermit;

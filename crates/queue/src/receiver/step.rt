@@ -1,7 +1,6 @@
 // A step of the receiver.
 use crate::cells;
 use crate::fault::QueueFault;
-use crate::fault::QueueFaultRefusal;
 use crate::numbers;
 use crate::permit::FullPermit;
 use crate::permit::ReceiverStep;
@@ -86,6 +85,7 @@ impl<I: ItemKind> Receiver<I> {
         ensures answer { λ r. ⌜ step-answer (queue-reason (Fault·Refusal .reason)) r ≡ step-in (I·ItemKind .blank) (receiver-view (now (self .entry))) (S·Store .model (now (store .entry))) Probing (I·ItemKind .blank) .answer ⌝ }
         ensures own { λ r. ⌜ Cases r (λ _. Unit {0}) (λ e. Own (e .fault)) ⌝ }
         ensures receiver { λ _. ⌜ receiver-view (now (self .exit)) ≡ step-in (I·ItemKind .blank) (receiver-view (now (self .entry))) (S·Store .model (now (store .entry))) Probing (I·ItemKind .blank) .receiver ⌝ }
+        ensures model { λ _. ⌜ S·Store .model (now (store .exit)) ≡ step-in (I·ItemKind .blank) (receiver-view (now (self .entry))) (S·Store .model (now (store .entry))) Probing (I·ItemKind .blank) .store ⌝ }
         ensures refused { λ r. ⌜ Cases r (λ _. Unit {0}) (λ _. now (self .exit) ≡ now (self .entry)) ⌝ }
     {
         let tail = self.tail;

@@ -1,7 +1,6 @@
 // A worker's step, by its phase.
 use crate::cells;
 use crate::fault::QueueFault;
-use crate::fault::QueueFaultRefusal;
 use crate::log::Log;
 use crate::numbers;
 use items::ItemKind;
