@@ -1,5 +1,5 @@
-// Replays the fault known from the field: a worker falls asleep between its two reads of one cell while the receiver
-// goes right round the ring. It wakes, and delivers the item of its own rank.
+// Replays the fault known from the field: a worker has looked at its cell once and falls asleep, and the receiver comes
+// round the whole ring. The worker wakes, looks again, and delivers the item of its own rank.
 mod lines;
 mod schedule;
 mod spare;

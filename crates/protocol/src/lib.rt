@@ -5,10 +5,16 @@ mod record;
 mod theorem;
 
 pub use answer::Answer;
+pub use answer::AnswerDebug;
+pub use answer::AnswerPartialEq;
 pub use answer::Call;
 pub use answer::ReceiverAnswer;
 pub use answer::WorkerAnswer;
+pub use answer::WorkerAnswerDebug;
+pub use answer::WorkerAnswerPartialEq;
 pub use record::Entry;
+pub use record::EntryDebug;
+pub use record::EntryPartialEq;
 pub use record::ReceiverPhase;
 pub use record::Worker;
 pub use record::WorkerPhase;
