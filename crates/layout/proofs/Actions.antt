@@ -1,18 +1,18 @@
 -- What the store of one word is to the model of the memory, and that it keeps the memory the image of its model.
-use mathlib.Core.Path.{_≡_, refl, sym, ap, _∙_}
+use mathlib.Core.Path.{_≡_, sym, ap, _∙_}
 use mathlib.Core.Bool.{true}
-use mathlib.Core.List.{List, map}
-use Prim.Native.Nat.{ℕ, _+_, _*_, _/_, _%_, _^_, _<_, _≤_}
+use mathlib.Core.List.{List}
+use Prim.Native.Nat.{ℕ, _+_, _%_, _^_, _<_, _≤_}
 use native.Mathlib.Omega.{arith}
 use lib.IntN.{ℤ}
-use lib.ListN.{length, getD, set}
+use lib.ListN.{length}
 use mir.Syntax.{w64}
 use mir.Val.{toZ, ofZ, SFits}
 use Rattle.std.proofs.shelf.Lists.{map-set, getD-map, length-map}
 use Rattle.std.proofs.shelf.Signed.{toZ-ofZ}
 use Rattle.stores.specs.declared.cell.Cell.{Cell}
 use Rattle.stores.specs.Model.{Contents, size, cell-of, fresh-cell, cell-item, cell-rank, cell-gap, with-cell, with-item, with-rank, with-gap, with-head, with-end}
-use Rattle.layout.specs.Blocks.{blocks-for, fit, stored}
+use Rattle.layout.specs.Blocks.{fit, stored}
 use Rattle.layout.specs.Image.{cell-words, in-words, zero-cell, part, image}
 use Rattle.layout.specs.Decoding.{cell-block, cell-word, part-in, cell-in, decoded, block-model, Imaged}
 use Rattle.layout.proofs.Stored.{length-stored}

@@ -1,29 +1,24 @@
 -- A memory that is cleared: its words, its bytes and its model.
 use mathlib.Core.Path.{_≡_, refl, sym, ap, _∙_}
-use mathlib.Core.Logic.{_⊎_, ⊎-elim}
-use mathlib.Core.Bool.{Bool, true, false, cond}
-use mathlib.Core.List.{List, [], _∷_, map}
-use Prim.Native.Nat.{ℕ, zero, suc, _+_, _*_, _-_, _/_, _%_, _^_, _<_, _≤_, min}
+use mathlib.Core.Bool.{true}
+use mathlib.Core.List.{List}
+use Prim.Native.Nat.{ℕ, zero, suc, _+_, _*_, _-_, _/_, _%_, _^_, _<_, _≤_}
 use native.Mathlib.Omega.{arith}
-use lib.Dec.{eqb}
-use lib.IntN.{ℤ, pos, negsuc}
+use lib.IntN.{negsuc}
 use lib.LanesLaws.{map-replicate}
 use lib.ListN.{length, getD, replicate}
 use mir.Syntax.{w64}
-use mir.Val.{toZ, ofZ}
-use Rattle.std.specs.Iters.{counting}
+use mir.Val.{toZ}
 use Rattle.std.proofs.shelf.Counted.{fill-by-all}
 use Rattle.std.proofs.shelf.Lists.{getD-replicate, getD-past, length-replicate}
-use Rattle.std.proofs.shelf.Tests.{cases-lt}
-use Rattle.stores.specs.declared.cell.Cell.{Cell}
 use Rattle.stores.specs.Model.{Contents, size, fresh-cell, cleared}
 use Rattle.layout.specs.Words.{word}
 use Rattle.layout.specs.Blocks.{place, blocks-for, fit}
-use Rattle.layout.specs.Image.{cell-words, in-words, zero-cell, part, plain, bytes-of, image}
+use Rattle.layout.specs.Image.{cell-words, in-words, zero-cell, part, plain, image}
 use Rattle.layout.specs.Decoding.{cell-block, cell-word, part-in, cell-in, decoded, block-model, Imaged}
-use Rattle.layout.proofs.Images.{full-plain, word-bytes, length-bytes}
+use Rattle.layout.proofs.Images.{full-plain, word-bytes}
 use Rattle.layout.proofs.Models.{same-contents, same-cell}
-use Rattle.layout.proofs.Fits.{Fits, fit-true, model-fit}
+use Rattle.layout.proofs.Fits.{Fits, model-fit}
 
 -- ---- the words, as a loop over them meets them
 

@@ -1,6 +1,6 @@
 -- The bytes of a function of words: each word, and the store of one.
-use mathlib.Core.Path.{_≡_, refl, sym, ap, _∙_}
-use mathlib.Core.Logic.{_⊎_, inl, inr, ⊎-elim}
+use mathlib.Core.Path.{_≡_, sym, ap, _∙_}
+use mathlib.Core.Logic.{_⊎_, inl, ⊎-elim}
 use mathlib.Core.List.{List}
 use Prim.Native.Nat.{ℕ, zero, suc, _+_, _*_, _-_, _/_, _%_, _^_, _<_, _≤_}
 use native.Mathlib.Omega.{arith}
@@ -9,7 +9,7 @@ use lib.ListN.{length, getD}
 use Rattle.std.proofs.shelf.Counted.{fill-by-all, length-map-counting, getD-map-counting}
 use Rattle.std.proofs.shelf.Tests.{cases-eq, cases-lt, cond-true, cond-false, lt-ltb, le-ltb}
 use Rattle.layout.specs.Words.{word, put, byte-of}
-use Rattle.layout.specs.Blocks.{place, sum-words, check-of, Checked, stored}
+use Rattle.layout.specs.Blocks.{place, sum-words, Checked, stored}
 use Rattle.layout.specs.Image.{sum-of, full, byte-at, bytes-of}
 use Rattle.layout.proofs.Puts.{byte-put, byte-put-other, length-put, word-from-bytes}
 use Rattle.layout.proofs.Sums.{sum-none, sum-more, sum-of-none, sum-of-more}

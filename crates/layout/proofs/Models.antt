@@ -1,9 +1,8 @@
 -- The model of a memory after the store of one word.
-use mathlib.Core.Path.{_≡_, refl, sym, ap, _∙_}
+use mathlib.Core.Path.{_≡_, sym, ap, _∙_}
 use mathlib.Core.Logic.{⊎-elim}
-use mathlib.Core.Bool.{true, false, cond}
 use mathlib.Core.List.{List, map}
-use Prim.Native.Nat.{ℕ, _+_, _*_, _/_, _%_, _^_, _<_, _≤_, min}
+use Prim.Native.Nat.{ℕ, _+_, _*_, _%_, _^_, _<_, _≤_, min}
 use native.Mathlib.Omega.{arith}
 use lib.IntN.{ℤ}
 use lib.ListN.{length, getD, set}
@@ -12,13 +11,13 @@ use mir.Val.{toZ}
 use Rattle.std.specs.Iters.{counting}
 use Rattle.std.proofs.shelf.Counted.{fill-by-all, length-map-counting, getD-map-counting}
 use Rattle.std.proofs.shelf.Lists.{length-set, getD-set-same, getD-set-other}
-use Rattle.std.proofs.shelf.Tests.{cases-eq, cond-true, cond-false}
+use Rattle.std.proofs.shelf.Tests.{cases-eq}
 use Rattle.stores.specs.declared.cell.Cell.{Cell}
-use Rattle.stores.specs.Model.{Contents, size, with-cell, with-end, with-head, fresh-cell}
+use Rattle.stores.specs.Model.{Contents, size, with-cell, with-end, with-head}
 use Rattle.layout.specs.Words.{word}
-use Rattle.layout.specs.Blocks.{place, blocks-for, fit, stored}
-use Rattle.layout.specs.Decoding.{cell-block, cell-word, part-in, cell-in, decoded, block-model}
-use Rattle.layout.proofs.Stored.{word-stored-same, word-stored-other, length-stored}
+use Rattle.layout.specs.Blocks.{place, blocks-for, stored}
+use Rattle.layout.specs.Decoding.{cell-block, cell-word, part-in, cell-in, decoded}
+use Rattle.layout.proofs.Stored.{word-stored-same, word-stored-other}
 
 -- ---- equal records
 

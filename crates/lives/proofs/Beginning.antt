@@ -1,5 +1,5 @@
 -- What an accepted lay out says of the queue that it leaves.
-use mathlib.Core.Path.{_≡_, refl, sym, ap, subst, _∙_}
+use mathlib.Core.Path.{_≡_, refl, ap, _∙_}
 use mathlib.Core.Bool.{Bool, true, false, cond}
 use mathlib.Core.List.{List, map}
 use Prim.Native.Nat.{ℕ, _<_}
@@ -12,9 +12,8 @@ use Rattle.stores.specs.Refusals.{Reason}
 use Rattle.stores.specs.Model.{Contents, size, cleared}
 use Rattle.protocol.specs.declared.record.Worker.{Worker}
 use Rattle.protocol.specs.Records.{Receiver, Log}
-use Rattle.protocol.specs.Rules.{no-cells, unless, no-lay-out, laid-receiver, idled, emptied-log}
+use Rattle.protocol.specs.Rules.{unless, no-lay-out, laid-receiver, idled, emptied-log}
 use Rattle.protocol.specs.State.{free}
-use Rattle.protocol.specs.Lives.{Queue}
 use Rattle.protocol.specs.Views.{laid-out}
 use Rattle.lives.specs.Turns.{queue-of}
 

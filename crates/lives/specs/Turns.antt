@@ -7,7 +7,7 @@ use Rattle.protocol.specs.declared.answer.Call.{Call}
 use Rattle.protocol.specs.declared.answer.Answer.{Answer}
 use Rattle.protocol.specs.Records.{Receiver, Log}
 use Rattle.protocol.specs.State.{Permit}
-use Rattle.protocol.specs.Lives.{Queue, Made, make}
+use Rattle.protocol.specs.Lives.{Queue, make}
 
 module _ {X : Type 0} where
   abbrev pub queue-of : Contents X → Receiver X → List (Worker X) → Log X → Permit → Queue X

@@ -1,22 +1,20 @@
 -- Each call of a queue with cells is a step of the relation.
 use mathlib.Core.Path.{_≡_, refl, sym, ap, subst, fun-ext, _∙_}
-use mathlib.Core.Logic.{_⊎_, inl, inr, ⊎-elim}
+use mathlib.Core.Logic.{_⊎_, inl, inr}
 use mathlib.Core.Bool.{Bool, true, false, cond}
-use mathlib.Core.List.{List, [], _∷_, _++_}
+use mathlib.Core.List.{List}
 use Prim.Native.Nat.{ℕ, _+_, _%_, _^_, _<_, _≤_}
 use native.Mathlib.Nat.{mod-lt}
 use native.Mathlib.Omega.{arith}
 use lib.Dec.{eqb, leb}
-use lib.IntN.{ℤ, pos, negsuc}
+use lib.IntN.{pos, negsuc}
 use lib.ListN.{length, getD, set, take, length-take}
 use Rattle.std.specs.declared.option.Option.{Option}
 use Rattle.std.specs.declared.option.Option.the-variants.{Some, None}
-use Rattle.std.specs.declared.result.Result.{Result}
-use Rattle.std.specs.declared.result.Result.the-variants.{Ok, Err}
 use Rattle.std.specs.shelf.Maps.{nth}
 use Rattle.std.proofs.shelf.Lists.{getD-set-same, getD-set-other, take-more-set}
 use Rattle.std.proofs.shelf.Maps.{nth-getD, nth-past}
-use Rattle.std.proofs.shelf.Tests.{cases-eq, cases-lt, ne-eqb, eq-eqb, cond-true, cond-false, leb-true, leb-false}
+use Rattle.std.proofs.shelf.Tests.{cases-lt, ne-eqb, cond-false, leb-false}
 use Rattle.stores.specs.declared.cell.Cell.{Cell}
 use Rattle.stores.specs.Refusals.{Reason}
 use Rattle.stores.specs.Model.{Contents, size, fresh-cell, cell-of, cell-item, cell-rank, cell-gap}
@@ -31,42 +29,25 @@ use Rattle.protocol.specs.declared.answer.Call.the-variants.{Submit, Withdraw,
 use Rattle.protocol.specs.declared.answer.ReceiverAnswer.the-variants.{Stepped as Phase, Skipped, Announced}
 use Rattle.protocol.specs.declared.answer.WorkerAnswer.{WorkerAnswer}
 use Rattle.protocol.specs.declared.answer.WorkerAnswer.the-variants.{Over, Claimed, MovedOn, Waiting, GivenUp, Stepped as Became, Delivered}
-use Rattle.protocol.specs.Events.{Event, received, worked}
-use Rattle.protocol.specs.Tests.{limit, used, is-rank, covers, ended-by, is-open, is-idle}
+use Rattle.protocol.specs.Events.{received, worked}
+use Rattle.protocol.specs.Tests.{limit, used, is-rank, covers, ended-by, is-idle}
 use Rattle.protocol.specs.Records.{Receiver, Log}
 use Rattle.protocol.specs.Rules as rules
-use Rattle.protocol.specs.Rules.{refusal, hand-full, no-submit, no-close, no-step, step-in, step-with, receiver-step, work-in, one-step, step-of, worker-step, in-table}
-use Rattle.protocol.specs.State.{Permit, free, full, spent, Sizes, State, put}
+use Rattle.protocol.specs.Rules.{refusal, hand-full, no-submit, no-close, no-step, step-in, step-with, receiver-step, work-in, step-of, worker-step, in-table}
+use Rattle.protocol.specs.State.{Permit, free, full, spent, State, put}
 use Rattle.protocol.specs.Steps.{Step, is-not-made, is-refused, submits, withdraws, closes, finds-used, finds-free, skips, fills, announces, idle-finds-over, claims, becomes-sure, doubts, marks, gives-up, waits, passes, passed-finds-over, moves-on, copies, delivers}
 use Rattle.protocol.specs.Lives.{Queue, Made, make, submitting, receiving, working, closing}
 use Rattle.protocol.specs.Views.{sizes, no-worker, view, event}
-
--- ---- lists as tables
-
-pub put-same : {V : Type 0} (f : ℕ → V) (i : ℕ) (v : V) (j : ℕ) → j ≡ i → put f i v j ≡ v
-unfolding put
-put-same f i v j e = cond-true (eqb j i) v (f j) (eq-eqb j i e)
-
-pub put-other : {V : Type 0} (f : ℕ → V) (i : ℕ) (v : V) (j : ℕ) → (j ≡ i → ⊥) → put f i v j ≡ f j
-unfolding put
-put-other f i v j ne = cond-false (eqb j i) v (f j) (ne-eqb j i ne)
+use Rattle.protocol.proofs.Tables.{put-at, put-id}
 
 -- a list with one element set is a table with one place put
 pub table-set : {V : Type 0} (l : List V) (i : ℕ) (v d : V) → i < length l → (λ j. getD (set l i v) j d) ≡ put (λ j. getD l j d) i v
 table-set l i v d h =
     fun-ext
     (λ j.
-    ⊎-elim
-    (λ (e : j ≡ i). ap (λ k. getD (set l i v) k d) e ∙ getD-set-same l i v d h ∙ sym (put-same (λ k. getD l k d) i v j e))
-    (λ (ne : j ≡ i → ⊥). getD-set-other l i j v d ne ∙ sym (put-other (λ k. getD l k d) i v j ne))
-    (cases-eq j i))
-
--- a place put to what it is
-pub put-kept : {V : Type 0} (f : ℕ → V) (i : ℕ) (v : V) → f i ≡ v → put f i v ≡ f
-put-kept f i v e =
-    fun-ext
-    (λ j.
-    ⊎-elim (λ (q : j ≡ i). put-same f i v j q ∙ sym e ∙ ap f (sym q)) (λ (ne : j ≡ i → ⊥). put-other f i v j ne) (cases-eq j i))
+    sym
+    (put-at (λ u. u ≡ getD (set l i v) j d) (λ k. getD l k d) i v j
+    (λ e. sym (ap (λ k. getD (set l i v) k d) e ∙ getD-set-same l i v d h)) (λ ne. sym (getD-set-other l i j v d ne))))
 
 -- ---- the receiver's calls
 
@@ -184,7 +165,7 @@ module _ {X : Type 0} (blank : X) (m : Contents X) (ws : List (Worker X)) (l : L
         let same : w ≡ record { phase = Idle; rank = w .rank; copy = w .copy } = λ i. record { phase = e i; rank = w .rank; copy = w .copy } in
         writes (m .head) (record { phase = Idle; rank = w .rank; copy = w .copy }) (Over (m .end))
         (subst (λ us. Step (sizes q) (view blank q) (worked k (Over (m .end))) (state-by (m .head) us))
-        (sym (put-kept (λ j. getD ws j (no-worker blank)) k (record { phase = Idle; rank = w .rank; copy = w .copy }) same)) (idle-finds-over k there e f))
+        (sym (put-id (λ j. getD ws j (no-worker blank)) k (record { phase = Idle; rank = w .rank; copy = w .copy }) same)) (idle-finds-over k there e f))
     by-idle e false f = by-next Claimed (leb limit (m .head)) refl (λ h. claims k there e f h)
 
     by-passed : w .phase ≡ Passed → (b : Bool) → ended-by (m .end) (m .head) ≡ b →

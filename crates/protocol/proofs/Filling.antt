@@ -1,7 +1,7 @@
 -- Slots filled one after the other.
 use mathlib.Core.Path.{_≡_, refl, ap}
 use mathlib.Core.List.{List, [], _∷_, _++_}
-use Prim.Native.Nat.{ℕ, zero, suc}
+use Prim.Native.Nat.{suc}
 use lib.ListN.{length, set}
 use Rattle.protocol.specs.Lives.{filled}
 

@@ -1,10 +1,10 @@
 -- The rules of the queue's calls: for every input the answer or the refusal, and what is left.
-use mathlib.Core.Bool.{Bool, true, false, cond, _&&_}
-use mathlib.Core.List.{List, map}
-use Prim.Native.Nat.{ℕ, _+_, _-_, _%_, _^_}
+use mathlib.Core.Bool.{cond, _&&_}
+use mathlib.Core.List.{List}
+use Prim.Native.Nat.{ℕ, _+_, _-_, _%_}
 use lib.Dec.{eqb, leb, ltb}
 use lib.IntN.{ℤ, pos, negsuc}
-use lib.ListN.{length, getD, set}
+use lib.ListN.{length, set}
 use Rattle.std.specs.declared.option.Option.{Option}
 use Rattle.std.specs.declared.option.Option.the-variants.{Some, None}
 use Rattle.std.specs.declared.result.Result.{Result}
@@ -12,13 +12,12 @@ use Rattle.std.specs.declared.result.Result.the-variants.{Ok, Err}
 use Rattle.std.specs.shelf.Maps.{nth}
 use Rattle.stores.specs.declared.refusal.Layer.the-variants.{Queue}
 use Rattle.stores.specs.Refusals.{Reason, reason-by}
-use Rattle.stores.specs.Model.{Contents, size, cell-of, with-item, with-rank, with-gap, with-head, with-end, cleared}
+use Rattle.stores.specs.Model.{Contents, size, cell-of, with-item, with-rank, with-gap, with-head}
 use Rattle.protocol.specs.declared.record.ReceiverPhase.{ReceiverPhase}
 use Rattle.protocol.specs.declared.record.ReceiverPhase.the-variants.{Probing, Busy, Found, Filled}
 use Rattle.protocol.specs.declared.record.WorkerPhase.{WorkerPhase}
 use Rattle.protocol.specs.declared.record.WorkerPhase.the-variants.{Idle, Seeking, Doubting, Marked, Passed, Sure, Copied}
 use Rattle.protocol.specs.declared.record.Worker.{Worker}
-use Rattle.protocol.specs.declared.record.Entry.{Entry}
 use Rattle.protocol.specs.declared.answer.ReceiverAnswer.{ReceiverAnswer}
 use Rattle.protocol.specs.declared.answer.ReceiverAnswer.the-variants as receiver
 use Rattle.protocol.specs.declared.answer.WorkerAnswer.{WorkerAnswer}

@@ -1,6 +1,6 @@
 -- The tests of stored numbers that the rules make.
 use mathlib.Core.Bool.{Bool, true, false}
-use Prim.Native.Nat.{ℕ, suc, _^_}
+use Prim.Native.Nat.{ℕ, _^_}
 use lib.Dec.{eqb, leb}
 use lib.IntN.{ℤ, pos, negsuc}
 use Rattle.protocol.specs.declared.record.WorkerPhase.{WorkerPhase}

@@ -2,7 +2,7 @@
 use mathlib.Core.List.{List, [], _∷_, map}
 use Prim.Native.Nat.{ℕ}
 use lib.ListN.{length, getD, take}
-use Rattle.stores.specs.Model.{Contents, size, cell-of, cleared}
+use Rattle.stores.specs.Model.{size, cell-of, cleared}
 use Rattle.protocol.specs.declared.record.WorkerPhase.the-variants.{Idle}
 use Rattle.protocol.specs.declared.record.Worker.{Worker}
 use Rattle.protocol.specs.declared.answer.Call.{Call}
@@ -10,9 +10,9 @@ use Rattle.protocol.specs.declared.answer.Call.the-variants.{Submit, Withdraw,
 use Rattle.protocol.specs.declared.answer.WorkerAnswer.{WorkerAnswer}
 use Rattle.protocol.specs.declared.answer.Answer.{Answer}
 use Rattle.protocol.specs.declared.answer.Answer.the-variants.{NotMade, Refused, Submitted, Withdrew, Received, Worked, Closed}
-use Rattle.protocol.specs.Records.{Receiver, Log}
+use Rattle.protocol.specs.Records.{Log}
 use Rattle.protocol.specs.Rules.{laid-receiver, idled, emptied-log}
-use Rattle.protocol.specs.State.{Permit, free, Sizes, State}
+use Rattle.protocol.specs.State.{free, Sizes, State}
 use Rattle.protocol.specs.Events.{Event, not-made, refused, submitted, withdrew, received, worked, closed}
 use Rattle.protocol.specs.Lives.{Queue, make}
 

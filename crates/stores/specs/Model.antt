@@ -1,6 +1,6 @@
 -- The model of a store, and what each action makes of it.
 use mathlib.Core.List.{List, []}
-use Prim.Native.Nat.{ℕ, _+_}
+use Prim.Native.Nat.{ℕ}
 use lib.ListN.{length, getD, set, replicate}
 use lib.IntN.{ℤ, negsuc}
 use Rattle.stores.specs.declared.cell.Cell.{Cell}

@@ -1,5 +1,4 @@
 use mathlib.Core.Path.{refl, ap, _∙_}
-use Rattle.protocol.specs.Lives.{Queue}
 use Rattle.queue.specs.Receivers.{receiver-view}
 use Rattle.queue.specs.Logs.{log-view}
 use Rattle.lives.specs.Permits.{permit-of}

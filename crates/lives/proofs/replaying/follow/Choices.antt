@@ -1,7 +1,7 @@
 use mathlib.Core.Path.{_≡_}
 use denote.Ref.{name}
 use lib.ListN.{take}
-use Rattle.protocol.specs.Lives.{Queue, after, answers, filled}
+use Rattle.protocol.specs.Lives.{answers}
 use Rattle.queue.specs.Receivers.{receiver-view}
 use Rattle.queue.specs.Logs.{log-view}
 use Rattle.lives.specs.Permits.{permit-of}

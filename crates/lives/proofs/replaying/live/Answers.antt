@@ -1,4 +1,4 @@
-use mathlib.Core.Path.{_≡_, refl, sym, subst, _∙_}
+use mathlib.Core.Path.{sym, subst, _∙_}
 use lib.ListN.{take}
 use Rattle.stores.specs.Model.{size}
 use Rattle.protocol.specs.Lives.{Queue}
