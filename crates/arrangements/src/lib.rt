@@ -1,4 +1,6 @@
 // Arrangements: where the cells of a store lie in the store below.
+#![tactic(auto)]
+
 mod arranged;
 mod arrangement;
 mod fault;

@@ -1,4 +1,6 @@
 // Block memory: a store over lent bytes, laid out in blocks with checks, and the inspection of such bytes.
+#![tactic(auto)]
+
 mod clearing;
 mod fault;
 mod inspection;

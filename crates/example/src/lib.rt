@@ -1,4 +1,6 @@
 // An example memory, made by the block store's own calls.
+#![tactic(auto)]
+
 ghost use Rattle.std.specs.Prelude.{◌≡◌, ℕ, true, length, is_ok, ◌≢◌};
 ghost use Rattle.items.specs.Readings.{zero_reading};
 ghost use Rattle.stores.specs.Calls.{no_cell, Done};

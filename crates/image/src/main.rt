@@ -1,4 +1,6 @@
 // Writes the bytes of the example memory to standard output.
+#![tactic(auto)]
+
 use anyhow::anyhow;
 use example::{BYTES, write_example};
 use std::io::Write;

@@ -1,4 +1,6 @@
 // Inspects the block memory on standard input, and prints what it finds.
+#![tactic(auto)]
+
 ghost use Rattle.std.specs.Prelude.{◌≡◌, string_bytes};
 ghost use Rattle.std.specs.Option.{option_map};
 ghost use Rattle.inspect.specs.Arguments.{only_of};

@@ -1,4 +1,6 @@
 // The text that the program `inspect` prints.
+#![tactic(auto)]
+
 mod argument;
 mod lines;
 mod text;

@@ -1,4 +1,6 @@
 // Item kinds: what can be handed over through a store's cells.
+#![tactic(auto)]
+
 mod kind;
 mod notice;
 mod reading;

@@ -1,5 +1,7 @@
 // Replays the fault known from the field: a worker has looked at its cell once and falls asleep, and the receiver comes
 // round the whole ring. The worker wakes, looks again, and delivers the item of its own rank.
+#![tactic(auto)]
+
 mod lines;
 mod schedule;
 mod spare;

@@ -1,4 +1,6 @@
 // Arranged stores over arranged stores, used through the store's trait alone.
+#![tactic(auto)]
+
 ghost use Rattle.std.specs.Prelude.{◌≡◌};
 ghost use Rattle.stores.specs.Calls.{no_cell, Answered, Done};
 ghost use Rattle.stores.specs.Model.{with_item};

@@ -1,4 +1,6 @@
 // Lives of a queue: any list of calls after a lay out, and the promise over all of them.
+#![tactic(auto)]
+
 mod calling;
 mod held;
 mod replaying;

@@ -1,5 +1,7 @@
 // The protocol of the hand-over queue: its records and answers, the rules of each call, the account of a history,
 // and the promise over whole lives of a queue with its proof. The calls themselves are in the crate above.
+#![tactic(auto)]
+
 mod answer;
 mod record;
 mod theorem;

@@ -1,4 +1,6 @@
 // The calls of the hand-over queue, one step a call, over any store and any item kind.
+#![tactic(auto)]
+
 mod cells;
 mod fault;
 mod laying;

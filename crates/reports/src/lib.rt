@@ -1,4 +1,6 @@
 // What is printed of a rehearsal.
+#![tactic(auto)]
+
 mod lines;
 mod text;
 

@@ -1,4 +1,6 @@
 // Runs of a queue: a drain, and a rehearsal. They see only what the queue, its lives and the stores promise.
+#![tactic(auto)]
+
 mod draining;
 mod fault;
 mod rehearsing;

@@ -1,4 +1,6 @@
 // Tests of item kinds, of both memories and of arranged stores on examples.
+#![tactic(auto)]
+
 #[cfg(test)]
 mod arranged;
 #[cfg(test)]

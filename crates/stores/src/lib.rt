@@ -1,4 +1,6 @@
 // The shared store: its model, its calls and their refusals, and record memory.
+#![tactic(auto)]
+
 mod cell;
 mod record;
 mod refusal;

@@ -1,4 +1,6 @@
 // Reads the text of a plan.
+#![tactic(auto)]
+
 mod fault;
 mod form;
 mod lexer;
