@@ -28,7 +28,7 @@ fn carried<V, F>(answer: Result<V, F>) -> Result<V, ArrangementFault<F>>
 
 impl<S: Store, A: Arrangement> ArrangedStore<S, A> {
     pub fn new(below: S, arrangement: A) -> ArrangedStore<S, A>
-        ensures model { arranged_model Item-as-ItemKind.blank A.Arrangement.fits A.Arrangement.place S.Store.model result ≡ arranged Item-as-ItemKind.blank (A.Arrangement.fits arrangement) (A.Arrangement.place arrangement) (S.Store.model below) }
+        ensures model { arranged_model S.Item.ItemKind.blank A.Arrangement.fits A.Arrangement.place S.Store.model result ≡ arranged S.Item.ItemKind.blank (A.Arrangement.fits arrangement) (A.Arrangement.place arrangement) (S.Store.model below) }
         ensures image { S.Store.imaged below → S.Store.imaged result.below }
         ensures lender { S.Store.lender result.below ≡ S.Store.lender below }
     {
@@ -37,7 +37,7 @@ impl<S: Store, A: Arrangement> ArrangedStore<S, A> {
 
     // The number of cells: none where the arrangement doesn't fit.
     fn fitting_cells(&self) -> usize
-        ensures { CellsAbove (fresh_cell Item-as-ItemKind.blank) (A.Arrangement.fits self.now.arrangement) (A.Arrangement.place self.now.arrangement) (S.Store.model self.now.below).cells result }
+        ensures { CellsAbove (fresh_cell S.Item.ItemKind.blank) (A.Arrangement.fits self.now.arrangement) (A.Arrangement.place self.now.arrangement) (S.Store.model self.now.below).cells result }
     {
         let n = self.below.cells();
         if self.arrangement.fits(n) { n } else { 0 }

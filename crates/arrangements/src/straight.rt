@@ -1,6 +1,6 @@
 // Each cell at the place of its own number.
 ghost use Rattle.arrangements.specs.Places.{every_size, same_number};
-ghost use Rattle.std.proofs.Common.{rules};
+ghost use Rattle.std.specs.Prelude.{refl};
 
 use crate::arrangement::Arrangement;
 
@@ -14,9 +14,9 @@ impl Arrangement for Straight {
 
     ghost cell = { λ _. same_number };
 
-    ghost within = { Prim.search rules };
+    ghost within = { λ a n i fits below. below };
 
-    ghost returning = { Prim.search rules };
+    ghost returning = { λ a n i fits below. refl };
 
     fn fits(self, _n: usize) -> bool {
         true
