@@ -9,7 +9,7 @@ write-cleared-requires g c = record { fit = fit_some g.I.ItemKind.item c.args.n 
 pub returns : goal.returns
 returns g c =
     record {
-      model = c.write-cleared.ensures.model
+      model = c.write_cleared.ensures.model
           ∙ ap (λ k. cleared g.I.ItemKind.blank k c.args.start) (size_fit g.I.ItemKind.item c.args.n c.args.mem.now (fit_some g.I.ItemKind.item c.args.n c.args.mem.now 0 c.requires.some));
-      image = c.write-cleared.ensures.image;
+      image = c.write_cleared.ensures.image;
     }

@@ -7,4 +7,4 @@ part-at-requires g c = record { block = room g.I.ItemKind.item c.args.n c.args.m
 
 pub returns : goal.returns
 returns g c =
-    c.decode.ensures ∙ ap g.I.ItemKind.item c.part-at.ensures ∙ sym (ap (λ x. x.item) (cell_model g.I.ItemKind.item c.args.n c.args.mem.now g.I.ItemKind.blank c.args.i c.requires))
+    c.decode.ensures ∙ ap g.I.ItemKind.item c.part_at.ensures ∙ sym (ap (λ x. x.item) (cell_model g.I.ItemKind.item c.args.n c.args.mem.now g.I.ItemKind.blank c.args.i c.requires))

@@ -9,11 +9,11 @@ put-part-requires g c = record { block = room g.I.ItemKind.item c.args.n c.args.
 
 pub returns : goal.returns
 returns g c =
-    let coded : c.cast-unsigned.result ≡ of_z w64 c.args.gap =
-    c.cast-unsigned.ensures ∙ ap (of_z w64) (to_z-of_z w64 c.args.gap c.ranges.gap) in
+    let coded : c.cast_unsigned.result ≡ of_z w64 c.args.gap =
+    c.cast_unsigned.ensures ∙ ap (of_z w64) (to_z-of_z w64 c.args.gap c.ranges.gap) in
     record {
-      model = gap_model g.I.ItemKind.word g.I.ItemKind.item c.args.n c.args.mem.now g.I.ItemKind.blank c.args.i c.requires _ c.args.gap c.cast-unsigned.result c.ranges.gap
-          c.cast-unsigned.type-inv coded c.put-part.ensures;
-      image = gap_imaged g.I.ItemKind.word g.I.ItemKind.item c.args.n c.args.mem.now g.I.ItemKind.blank c.args.i c.requires _ c.args.gap c.cast-unsigned.result c.ranges.gap
-          c.cast-unsigned.type-inv coded c.put-part.ensures;
+      model = gap_model g.I.ItemKind.word g.I.ItemKind.item c.args.n c.args.mem.now g.I.ItemKind.blank c.args.i c.requires _ c.args.gap c.cast_unsigned.result c.ranges.gap
+          c.cast_unsigned.type_inv coded c.put_part.ensures;
+      image = gap_imaged g.I.ItemKind.word g.I.ItemKind.item c.args.n c.args.mem.now g.I.ItemKind.blank c.args.i c.requires _ c.args.gap c.cast_unsigned.result c.ranges.gap
+          c.cast_unsigned.type_inv coded c.put_part.ensures;
     }

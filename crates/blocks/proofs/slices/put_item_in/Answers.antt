@@ -9,8 +9,8 @@ put-part-requires g c = record { block = room g.I.ItemKind.item c.args.n c.args.
 pub returns : goal.returns
 returns g c =
     record {
-      model = item_model g.I.ItemKind.word g.I.ItemKind.item c.args.n c.args.mem.now g.I.ItemKind.blank c.args.i c.requires _ c.args.item c.encode.result c.encode.type-inv c.encode.ensures.value
+      model = item_model g.I.ItemKind.word g.I.ItemKind.item c.args.n c.args.mem.now g.I.ItemKind.blank c.args.i c.requires _ c.args.item c.encode.result c.encode.ok c.encode.ensures.value
           c.encode.ensures.law c.put-part.ensures;
-      image = item_imaged g.I.ItemKind.word g.I.ItemKind.item c.args.n c.args.mem.now g.I.ItemKind.blank c.args.i c.requires _ c.args.item c.encode.result c.encode.type-inv c.encode.ensures.value
+      image = item_imaged g.I.ItemKind.word g.I.ItemKind.item c.args.n c.args.mem.now g.I.ItemKind.blank c.args.i c.requires _ c.args.item c.encode.result c.encode.ok c.encode.ensures.value
           c.encode.ensures.law c.put-part.ensures;
     }

@@ -8,6 +8,6 @@ part-at-requires g c = record { block = room g.I.ItemKind.item c.args.n c.args.m
 
 pub returns : goal.returns
 returns g c =
-    let f : SFits w64 c.cast-signed.result = search rules in
-    to_z-of_z w64 c.cast-signed.result f ∙ c.cast-signed.ensures ∙ ap (to_z w64) c.part-at.ensures
+    let f : SFits w64 c.cast_signed.result = search rules in
+    to_z-of_z w64 c.cast_signed.result f ∙ c.cast_signed.ensures ∙ ap (to_z w64) c.part_at.ensures
     ∙ sym (ap (λ x. x.rank) (cell_model g.I.ItemKind.item c.args.n c.args.mem.now g.I.ItemKind.blank c.args.i c.requires))

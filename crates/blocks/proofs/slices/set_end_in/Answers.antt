@@ -11,11 +11,11 @@ store-word-requires g c =
 
 pub returns : goal.returns
 returns g c =
-    let coded : c.cast-unsigned.result ≡ of_z w64 c.args.mark =
-    c.cast-unsigned.ensures ∙ ap (of_z w64) (to_z-of_z w64 c.args.mark c.ranges.mark) in
+    let coded : c.cast_unsigned.result ≡ of_z w64 c.args.mark =
+    c.cast_unsigned.ensures ∙ ap (of_z w64) (to_z-of_z w64 c.args.mark c.ranges.mark) in
     record {
-      model = end_model g.I.ItemKind.word g.I.ItemKind.item c.args.n c.args.mem.now c.requires _ c.args.mark c.cast-unsigned.result c.ranges.mark c.cast-unsigned.type-inv coded
-          c.store-word.ensures;
-      image = end_imaged g.I.ItemKind.word g.I.ItemKind.item c.args.n c.args.mem.now c.requires _ c.args.mark c.cast-unsigned.result c.ranges.mark c.cast-unsigned.type-inv coded
-          c.store-word.ensures;
+      model = end_model g.I.ItemKind.word g.I.ItemKind.item c.args.n c.args.mem.now c.requires _ c.args.mark c.cast_unsigned.result c.ranges.mark c.cast_unsigned.type_inv coded
+          c.store_word.ensures;
+      image = end_imaged g.I.ItemKind.word g.I.ItemKind.item c.args.n c.args.mem.now c.requires _ c.args.mark c.cast_unsigned.result c.ranges.mark c.cast_unsigned.type_inv coded
+          c.store_word.ensures;
     }

@@ -11,6 +11,6 @@ store-word-requires g c =
 pub returns : goal.returns
 returns g c =
     record {
-      model = head_model g.I.ItemKind.word g.I.ItemKind.item c.args.n c.args.mem.now c.requires.some _ c.args.head c.requires.low c.store-word.ensures;
-      image = head_imaged g.I.ItemKind.word g.I.ItemKind.item c.args.n c.args.mem.now c.requires.some _ c.args.head c.requires.low c.store-word.ensures;
+      model = head_model g.I.ItemKind.word g.I.ItemKind.item c.args.n c.args.mem.now c.requires.some _ c.args.head c.requires.low c.store_word.ensures;
+      image = head_imaged g.I.ItemKind.word g.I.ItemKind.item c.args.n c.args.mem.now c.requires.some _ c.args.head c.requires.low c.store_word.ensures;
     }

@@ -6,7 +6,7 @@ use Rattle.blocks.proofs.words.sum_words.Goals as goal
 pub loop-j-preserved : goal.loop-j-preserved
 loop-j-preserved c =
     let s : sum_words c.args.mem.now c.args.b (c.loop-j.j + 1)
-    ≡ sum_words c.args.mem.now c.args.b c.loop-j.j + c.word-at-sum.result =
+    ≡ sum_words c.args.mem.now c.args.b c.loop-j.j + c.word_at-sum.result =
     rw add-one (omega (arith, sum_more c.args.mem.now c.args.b c.loop-j.j)) in
     omega arith
 

@@ -17,8 +17,8 @@ loop-j-preserved c =
     let w = c.word-w.ensures ∙ sym (full_plain f c.args.b c.loop-j.j c.loop-j-test.true) in
     let more : sum_of f c.args.b (c.loop-j.j + 1) ≡ sum_of f c.args.b c.loop-j.j + c.word-w.result =
     rw add-one (sum_of_more f c.args.b c.loop-j.j ∙ ap (λ x. sum_of f c.args.b c.loop-j.j + x) (sym c.word-w.ensures)) in (
-      written_more f c.loop-j.mem c.put-word.new.mem c.args.b c.loop-j.j c.word-w.result _ (omega arith) (omega arith) w
-          c.put-word.ensures (omega arith) c.loop-j.invariant.0,
+      written_more f c.loop-j.mem c.put_word.new.mem c.args.b c.loop-j.j c.word-w.result _ (omega arith) (omega arith) w
+          c.put_word.ensures (omega arith) c.loop-j.invariant.0,
       omega (arith, c.loop-j.invariant.1),
     )
 
@@ -27,5 +27,5 @@ returns c =
     let f : ℕ → ℕ → ℕ = plain (cleared c.args.self.blank c.args.self.cells c.args.self.start) in
     let done : c.loop-j.j ≡ 63 = omega arith in
     let check = c.loop-j.invariant.1 ∙ ap (λ j. (c.args.b + 1 + sum_of f c.args.b j) % 2 ^ 64) done ∙ sym (full_check f c.args.b 63 (omega arith)) in
-    written_more f c.loop-j.mem c.put-word-2.new.mem c.args.b 63 c.loop-j.check _ (omega arith) (omega arith) check
-    c.put-word-2.ensures (omega arith) (λ i h. c.loop-j.invariant.0 i (omega arith))
+    written_more f c.loop-j.mem c.put_word-2.new.mem c.args.b 63 c.loop-j.check _ (omega arith) (omega arith) check
+    c.put_word-2.ensures (omega arith) (λ i h. c.loop-j.invariant.0 i (omega arith))
