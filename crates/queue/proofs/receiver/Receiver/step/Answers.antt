@@ -13,7 +13,7 @@ returns g c =
     let done = c.step_with.ensures in
     record {
       answer = answer_by_phase blank r m c.in-Some.item cells c.in-Some.is _ done.answer;
-      own = done.own_val;
+      own = done.own;
       receiver = receiver_by_phase blank r m c.in-Some.item cells c.in-Some.is _ done.receiver;
       model = store_by_phase blank r m c.in-Some.item cells c.in-Some.is _ done.model;
       refused = done.refused;

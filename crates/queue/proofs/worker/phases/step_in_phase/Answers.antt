@@ -30,13 +30,13 @@ returns-in-Passed g c =
     let w = c.args.w in
     let m = g.S.Store.model c.args.store.now in
     let l = log_view c.args.log.now in
-    let done = c.move-on.ensures in
+    let done = c.move_on.ensures in
     record {
       answer = answer_at blank k w m l Passed c.in-Passed.is _ (done.answer k l);
       carries = done.carries;
       model = store_at blank k w m l Passed c.in-Passed.is _ (done.model k l);
       log = log_at blank k w m l Passed c.in-Passed.is _ (sym (log_passed blank k w m l));
-      refused = beside c.move-on.result c.move-on.new.store c.args.store.now c.args.log.now done.refused;
+      refused = beside c.move_on.result c.move_on.new.store c.args.store.now c.args.log.now done.refused;
       image = done.image;
       lender = done.lender;
       lent = refl {a = c.args.log.now.entries.ghost_name};
@@ -106,7 +106,7 @@ returns-in-Sure g c =
     let w = c.args.w in
     let m = g.S.Store.model c.args.store.now in
     let l = log_view c.args.log.now in
-    let done = c.copy-item.ensures in
+    let done = c.copy_item.ensures in
     record {
       answer = answer_at blank k w m l Sure c.in-Sure.is _ (done.answer k l);
       carries = tt;
