@@ -4,9 +4,9 @@ use Rattle.layout.specs.Blocks.{fit}
 use Rattle.layout.proofs.Fits.{model_unfit, imaged_unfit}
 use Rattle.blocks.proofs.slices.make_in.Goals as goal
 
-pub returns-else-is-fit : goal.returns-else-is-fit
-returns-else-is-fit g c =
-    let unfit = sym c.if-is-fit.ensures in
+pub returns-else-is_fit : goal.returns-else-is_fit
+returns-else-is_fit g c =
+    let unfit = sym c.if-is_fit.ensures in
     record {
       model = model_unfit g.I.ItemKind.item c.args.n c.args.mem.now unfit ∙ sym (cond-false (fit (length c.args.mem.now) c.args.n) _ _ unfit);
       image = imaged_unfit g.I.ItemKind.item c.args.n c.args.mem.now g.I.ItemKind.word unfit;

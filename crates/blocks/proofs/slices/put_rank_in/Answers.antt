@@ -4,8 +4,8 @@ use Rattle.layout.proofs.Fits.{room}
 use Rattle.layout.proofs.Actions.{rank_model, rank_imaged}
 use Rattle.blocks.proofs.slices.put_rank_in.Goals as goal
 
-pub put-part-requires : goal.put-part-requires
-put-part-requires g c = record { block = room g.I.ItemKind.item c.args.n c.args.mem.now c.args.i c.requires; part = omega arith }
+pub put_part-requires : goal.put_part-requires
+put_part-requires g c = record { block = room g.I.ItemKind.item c.args.n c.args.mem.now c.args.i c.requires; part = omega arith }
 
 pub returns : goal.returns
 returns g c =

@@ -3,8 +3,8 @@ use Rattle.layout.proofs.Fits.{fits_some}
 use Rattle.layout.proofs.Actions.{head_model, head_imaged}
 use Rattle.blocks.proofs.slices.set_head_in.Goals as goal
 
-pub store-word-requires : goal.store-word-requires
-store-word-requires g c =
+pub store_word-requires : goal.store_word-requires
+store_word-requires g c =
     let f = fits_some g.I.ItemKind.item c.args.n c.args.mem.now 0 c.requires.some in
     record { block = omega arith; plain = omega arith }
 
