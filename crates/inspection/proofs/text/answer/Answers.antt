@@ -15,8 +15,8 @@ pub returns-in-Ok : goal.returns-in-Ok
 returns-in-Ok c =
     record {
       text =
-          IfOk-weaker c.checks-hold.result _ _ (λ s e. verdict _ (Ok tt) c.in-Some.ensures c.in-Ok.ensures.verdict e)
-          c.checks-hold.ensures;
+          IfOk-weaker c.checks_hold.result _ _ (λ s e. verdict _ (Ok tt) c.in-Some.ensures c.in-Ok.ensures.verdict e)
+          c.checks_hold.ensures;
       only = one_text _ c.args.memory.now;
     }
 
