@@ -22,10 +22,10 @@ loop-i-preserved g c =
     let made = c.turn-held.ensures in (
       lived_more g.I.ItemKind.blank
           (queue_of (g.S.Store.model c.args.store.now) (receiver_view c.args.receiver.now) c.args.workers.now (log_view c.args.log.now) (permit_of c.args.held))
-          c.args.answers.now c.args.calls.now c.loop-i.i c.call-at-call.result
+          c.args.answers.now c.args.calls.now c.loop-i.i c.call_at-call.result
           (queue_of (g.S.Store.model c.loop-i.store) (receiver_view c.loop-i.receiver) c.loop-i.workers (log_view c.loop-i.log) (permit_of c.loop-i.held))
           (queue_of (g.S.Store.model c.turn-held.new.store) (receiver_view c.turn-held.new.receiver) c.turn-held.new.workers (log_view c.turn-held.new.log) (permit_of c.turn-held.result))
-          c.loop-i.answers c.turn-held.new.answers c.loop-i-test.true (c.call-at-call.ensures c.call-at-call.result) inv.0
+          c.loop-i.answers c.turn-held.new.answers c.loop-i-test.true (c.call_at-call.ensures c.call_at-call.result) inv.0
           (ap (λ m. m.queue) made.made) made.answer,
       (λ i. made.image (inv.1 i)),
       made.lender ∙ inv.2,

@@ -9,7 +9,7 @@ use Rattle.runs.proofs.draining.checked.Goals as goal
 
 pub returns-in-Some : goal.returns-in-Some
 returns-in-Some g c =
-    let reason = queue_reason g.Fault.Refusal.reason in
+    let reason = queue_reason g.S.Fault.Refusal.reason in
     let ws = c.args.workers.now in
     let m = g.S.Store.model c.args.store.now in
     let l = log_view c.args.log.now in
@@ -18,7 +18,7 @@ returns-in-Some g c =
       drained =
           by_checks g.I.ItemKind.blank reason c.args.budget ws m l (Some (run_reason reason c.in-Some.fault)) (Err (record { steps = 0; fault = c.in-Some.fault })) ws m l
           (sym (said.reason reason)) (as_ended g.I.ItemKind.blank reason _ (Err (record { steps = 0; fault = c.in-Some.fault })) ws m l refl);
-      fault = checks_own g.Fault.Refusal.reason g.Fault.Refusal.layer c.in-Some.fault said.own_val;
+      fault = checks_own g.S.Fault.Refusal.reason g.S.Fault.Refusal.layer c.in-Some.fault said.own_val;
       refused = λ _. (refl, refl, refl);
       image = λ i. i;
       lender = refl;
@@ -27,7 +27,7 @@ returns-in-Some g c =
 
 pub returns-in-None : goal.returns-in-None
 returns-in-None g c =
-    let reason = queue_reason g.Fault.Refusal.reason in
+    let reason = queue_reason g.S.Fault.Refusal.reason in
     let done = c.step-each.ensures in
     record {
       drained =
@@ -37,8 +37,8 @@ returns-in-None g c =
           (λ (n : ℕ). DrainedAs reason (drain_from g.I.ItemKind.blank n 0 0 c.args.workers.now (g.S.Store.model c.args.store.now) (log_view c.args.log.now))
           c.step-each.result c.step-each.new.workers (g.S.Store.model c.step-each.new.store) (log_view c.step-each.new.log))
           c.min.ensures done.drained);
-      fault = cases_weaker c.step-each.result _ _ (λ e. step_fault g.Fault.Refusal.reason g.Fault.Refusal.layer e.fault) done.fault;
-      refused = cases_weaker c.step-each.result _ _ (λ e o h. absurd (no_check g.Fault.Refusal.reason g.Fault.Refusal.layer e.fault o h)) done.fault;
+      fault = cases_weaker c.step-each.result _ _ (λ e. step_fault g.S.Fault.Refusal.reason g.S.Fault.Refusal.layer e.fault) done.fault;
+      refused = cases_weaker c.step-each.result _ _ (λ e o h. absurd (no_check g.S.Fault.Refusal.reason g.S.Fault.Refusal.layer e.fault o h)) done.fault;
       image = done.image;
       lender = done.lender;
       lent = done.lent;

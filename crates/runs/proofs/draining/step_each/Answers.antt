@@ -14,7 +14,7 @@ returns-then-k-workers g c =
     let m = g.S.Store.model c.loop-steps.store in
     let l = log_view c.loop-steps.log in
     record {
-      drained = as_ended blank (queue_reason g.Fault.Refusal.reason) _ (Ok _) ws m l (inv.0 ∙ drain_finished blank c.args.budget c.loop-steps.steps c.loop-steps.k ws m l c.if-k-workers.true);
+      drained = as_ended blank (queue_reason g.S.Fault.Refusal.reason) _ (Ok _) ws m l (inv.0 ∙ drain_finished blank c.args.budget c.loop-steps.steps c.loop-steps.k ws m l c.if-k-workers.true);
       fault = tt;
       image = inv.1;
       lender = inv.2;
@@ -27,9 +27,9 @@ returns-in-Err g c =
     let blank = g.I.ItemKind.blank in
     let step = c.in-Err.ensures in
     record {
-      drained = as_ended blank (queue_reason g.Fault.Refusal.reason) _ (Err _) _ _ _
+      drained = as_ended blank (queue_reason g.S.Fault.Refusal.reason) _ (Err _) _ _ _
           (inv.0 ∙ drain_refused blank c.args.budget c.loop-steps.steps c.loop-steps.k c.loop-steps.workers (g.S.Store.model c.loop-steps.store) (log_view c.loop-steps.log)
-          (queue_reason g.Fault.Refusal.reason c.in-Err.fault) c.worker_step.new.workers (g.S.Store.model c.worker_step.new.store) (log_view c.worker_step.new.log)
+          (queue_reason g.S.Fault.Refusal.reason c.in-Err.fault) c.worker_step.new.workers (g.S.Store.model c.worker_step.new.store) (log_view c.worker_step.new.log)
           c.loop-steps-test.true c.if-k-workers.false (sym step.answer) step.workers step.model step.log);
       fault = step.carries;
       image = λ i. step.image (inv.1 i);
@@ -60,7 +60,7 @@ returns g c =
     let l = log_view c.loop-steps.log in
     let all : c.loop-steps.steps ≡ c.args.budget = omega (arith, c.loop-steps-test.false, c.loop-steps.auto.steps-end) in
     record {
-      drained = as_ended blank (queue_reason g.Fault.Refusal.reason) _ (Ok _) ws m l
+      drained = as_ended blank (queue_reason g.S.Fault.Refusal.reason) _ (Ok _) ws m l
           (inv.0 ∙ drain_used_up blank c.args.budget c.loop-steps.steps c.loop-steps.k ws m l c.loop-steps-test.false
           ∙ ap (λ (n : ℕ). ends blank n (Ok (leb (length ws) c.loop-steps.k)) ws m l) all);
       fault = tt;

@@ -30,7 +30,7 @@ returns-in-Ok g c =
     record {
       rehearses = (
         none,
-        from_laid blank m ws l c.args.start none (queue_reason g.Fault.Refusal.reason) c.args.items.now c.args.turns.now
+        from_laid blank m ws l c.args.start none (queue_reason g.S.Fault.Refusal.reason) c.args.items.now c.args.turns.now
             (g.S.Store.model made.store) (receiver_view c.new-receiver.result) (receiver_view made.receiver) made.workers (log_view made.log) c.perform.result
             (g.S.Store.model c.perform.new.store) c.perform.new.workers (log_view c.perform.new.log)
             laid.model laid.receiver laid.workers laid.log did.rehearsed,

@@ -18,7 +18,7 @@ returns g c =
     let some = subst (λ (n : ℕ). 0 < n) (sym did.size) c.requires.cells in
     record {
       rehearsed =
-          performed g.I.ItemKind.blank (queue_reason g.Fault.Refusal.reason)
+          performed g.I.ItemKind.blank (queue_reason g.S.Fault.Refusal.reason)
           (queue_of (g.S.Store.model c.args.store.now) (receiver_view c.args.receiver.now) c.args.workers.now (log_view c.args.log.now) free)
           c.args.items.now c.args.turns.now
           (g.S.Store.model took.new.store) (receiver_view took.new.receiver) took.new.workers (log_view took.new.log) (permit_of took.result.held) _ _

@@ -11,7 +11,7 @@ use Rattle.runs.proofs.rehearsing.take_turn.Goals as goal
 pub returns-in-Ok : goal.returns-in-Ok
 returns-in-Ok g c =
     let blank = g.I.ItemKind.blank in
-    let reason = queue_reason g.Fault.Refusal.reason in
+    let reason = queue_reason g.S.Fault.Refusal.reason in
     let q = queue_of (g.S.Store.model c.args.store.now) (receiver_view c.args.receiver.now) c.args.workers.now (log_view c.args.log.now) (permit_of c.args.held) in
     let new = queue_of (g.S.Store.model c.make-held.new.store) (receiver_view c.make-held.new.receiver) c.make-held.new.workers (log_view c.make-held.new.log) (permit_of c.make-held.result.held) in
     let items = c.args.items.now in
@@ -34,7 +34,7 @@ returns-in-Ok g c =
 pub returns-in-Err : goal.returns-in-Err
 returns-in-Err g c =
     let blank = g.I.ItemKind.blank in
-    let reason = queue_reason g.Fault.Refusal.reason in
+    let reason = queue_reason g.S.Fault.Refusal.reason in
     let q = queue_of (g.S.Store.model c.args.store.now) (receiver_view c.args.receiver.now) c.args.workers.now (log_view c.args.log.now) (permit_of c.args.held) in
     let new = queue_of (g.S.Store.model c.make-held.new.store) (receiver_view c.make-held.new.receiver) c.make-held.new.workers (log_view c.make-held.new.log) (permit_of c.make-held.result.held) in
     let items = c.args.items.now in
@@ -47,8 +47,8 @@ returns-in-Err g c =
       hand = hand_after blank q items c.args.party call new (told reason answer) c.requires is made.made;
       size = size_after blank q items c.args.party call new (told reason answer) c.requires made.made;
       fault =
-          turn_fault g.Fault.Refusal.reason g.Fault.Refusal.layer call c.in-Err.fault
-          (subst (λ o. MatchResult o Accepted (FaultOf g.Fault.Refusal.reason g.Fault.Refusal.layer call)) c.in-Err.is made.fault);
+          turn_fault g.S.Fault.Refusal.reason g.S.Fault.Refusal.layer call c.in-Err.fault
+          (subst (λ o. MatchResult o Accepted (FaultOf g.S.Fault.Refusal.reason g.S.Fault.Refusal.layer call)) c.in-Err.is made.fault);
       image = made.image;
       lender = made.lender;
       lent = made.lent;

@@ -15,7 +15,7 @@ pub returns-in-Some : goal.returns-in-Some
 returns-in-Some g c =
     let inv = c.loop-i.invariant in
     let blank = g.I.ItemKind.blank in
-    let reason = queue_reason g.Fault.Refusal.reason in
+    let reason = queue_reason g.S.Fault.Refusal.reason in
     let q = queue_of (g.S.Store.model c.loop-i.store) (receiver_view c.loop-i.receiver) c.loop-i.workers (log_view c.loop-i.log) (permit_of c.loop-i.held) in
     let taken = c.take-turn-permit in
     let new = queue_of (g.S.Store.model taken.new.store) (receiver_view taken.new.receiver) taken.new.workers (log_view taken.new.log) (permit_of taken.result.held) in
@@ -28,7 +28,7 @@ returns-in-Some g c =
           ∙ ap (λ o. went reason o i new (take_turns blank (i + 1) new taken.result.items.now (drop (i + 1) turns))) c.in-Some.is;
       hand = did.hand;
       size = did.size ∙ inv.2;
-      fault = subst (λ o. IfSome o (TurnFault g.Fault.Refusal.reason g.Fault.Refusal.layer)) c.in-Some.is did.fault;
+      fault = subst (λ o. IfSome o (TurnFault g.S.Fault.Refusal.reason g.S.Fault.Refusal.layer)) c.in-Some.is did.fault;
       image = λ h. did.image (inv.3 h);
       lender = did.lender ∙ inv.4;
       lent = did.lent ∙ inv.5;
@@ -38,7 +38,7 @@ pub loop-i-preserved : goal.loop-i-preserved
 loop-i-preserved g c =
     let inv = c.loop-i.invariant in
     let blank = g.I.ItemKind.blank in
-    let reason = queue_reason g.Fault.Refusal.reason in
+    let reason = queue_reason g.S.Fault.Refusal.reason in
     let q = queue_of (g.S.Store.model c.loop-i.store) (receiver_view c.loop-i.receiver) c.loop-i.workers (log_view c.loop-i.log) (permit_of c.loop-i.held) in
     let taken = c.take-turn-permit in
     let new = queue_of (g.S.Store.model taken.new.store) (receiver_view taken.new.receiver) taken.new.workers (log_view taken.new.log) (permit_of taken.result.held) in
