@@ -11,6 +11,6 @@ one_more m i old line new a b e = rw add-one (e ∙ (λ j. a j ++ b j))
 
 pub loop-i-preserved : goal.loop-i-preserved
 loop-i-preserved c =
-    let pushed = chosen _ _ _ _ c.push_str.ensures.bytes (ap is_ok c.in-ok-push_str.was) in
-    let line = c.as_str.ensures.value ∙ c.in-ok-line.ensures ∙ ap (used_line c.loop-i.i) c.cell_at.ensures in
+    let pushed = chosen _ _ _ _ c.push_str.ensures.bytes (ap is_ok c.in_ok-push_str.was) in
+    let line = c.as_str.ensures.value ∙ c.in_ok-line.ensures ∙ ap (used_line c.loop-i.i) c.cell_at.ensures in
     one_more c.args.memory.now c.loop-i.i _ _ _ c.loop-i.invariant line pushed

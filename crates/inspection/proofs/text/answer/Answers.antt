@@ -4,10 +4,10 @@ use Rattle.inspection.specs.Prints.{usage, verdict}
 use Rattle.inspection.proofs.Single.{one_text}
 use Rattle.inspection.proofs.text.answer.Goals as goal
 
-pub returns-in-default : goal.returns-in-default
-returns-in-default c =
+pub returns-in_default : goal.returns-in_default
+returns-in_default c =
     record {
-      text = IfOk-weaker c.usage.result _ _ (λ s e. usage c.in-default.ensures e) c.usage.ensures;
+      text = IfOk-weaker c.usage.result _ _ (λ s e. usage c.in_default.ensures e) c.usage.ensures;
       only = one_text _ c.args.memory.now;
     }
 

@@ -14,9 +14,9 @@ one_more es i d old line new h a b e =
 
 pub loop-entry-preserved : goal.loop-entry-preserved
 loop-entry-preserved c =
-    let pushed = chosen _ _ _ _ c.push_str.ensures.bytes (ap is_ok c.in-ok-push_str.was) in
+    let pushed = chosen _ _ _ _ c.push_str.ensures.bytes (ap is_ok c.in_ok-push_str.was) in
     one_more c.args.entries.now c.loop-entry.entry-index _ _ _ _ (omega arith) c.loop-entry.invariant
-    (c.as_str.ensures.value ∙ c.in-ok-line.ensures) pushed
+    (c.as_str.ensures.value ∙ c.in_ok-line.ensures) pushed
 
 pub returns : goal.returns
 returns c =

@@ -28,17 +28,17 @@ returns-in-Some g c =
 pub returns-in-None : goal.returns-in-None
 returns-in-None g c =
     let reason = queue_reason g.S.Fault.Refusal.reason in
-    let done = c.step-each.ensures in
+    let done = c.step_each.ensures in
     record {
       drained =
-          by_checks g.I.ItemKind.blank reason c.args.budget c.args.workers.now (g.S.Store.model c.args.store.now) (log_view c.args.log.now) None c.step-each.result _ _ _
+          by_checks g.I.ItemKind.blank reason c.args.budget c.args.workers.now (g.S.Store.model c.args.store.now) (log_view c.args.log.now) None c.step_each.result _ _ _
           (sym (c.in-None.ensures.reason reason))
           (subst
           (λ (n : ℕ). DrainedAs reason (drain_from g.I.ItemKind.blank n 0 0 c.args.workers.now (g.S.Store.model c.args.store.now) (log_view c.args.log.now))
-          c.step-each.result c.step-each.new.workers (g.S.Store.model c.step-each.new.store) (log_view c.step-each.new.log))
+          c.step_each.result c.step_each.new.workers (g.S.Store.model c.step_each.new.store) (log_view c.step_each.new.log))
           c.min.ensures done.drained);
-      fault = cases_weaker c.step-each.result _ _ (λ e. step_fault g.S.Fault.Refusal.reason g.S.Fault.Refusal.layer e.fault) done.fault;
-      refused = cases_weaker c.step-each.result _ _ (λ e o h. absurd (no_check g.S.Fault.Refusal.reason g.S.Fault.Refusal.layer e.fault o h)) done.fault;
+      fault = cases_weaker c.step_each.result _ _ (λ e. step_fault g.S.Fault.Refusal.reason g.S.Fault.Refusal.layer e.fault) done.fault;
+      refused = cases_weaker c.step_each.result _ _ (λ e o h. absurd (no_check g.S.Fault.Refusal.reason g.S.Fault.Refusal.layer e.fault o h)) done.fault;
       image = done.image;
       lender = done.lender;
       lent = done.lent;

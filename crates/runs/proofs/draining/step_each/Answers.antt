@@ -45,7 +45,7 @@ loop-steps-preserved g c =
       inv.0 ∙ drain_more blank c.args.budget c.loop-steps.steps c.loop-steps.k c.loop-steps.workers (g.S.Store.model c.loop-steps.store) (log_view c.loop-steps.log)
           c.in-Ok.answer c.worker_step.new.workers (g.S.Store.model c.worker_step.new.store) (log_view c.worker_step.new.log)
           c.loop-steps-test.true c.if-k-workers.false (sym step.answer) step.workers step.model step.log
-          ∙ ap (λ (k : ℕ). drain_from blank (c.args.budget - (c.loop-steps.steps + 1)) (c.loop-steps.steps + 1) k c.worker_step.new.workers (g.S.Store.model c.worker_step.new.store) (log_view c.worker_step.new.log)) (sym c.next-worker-k.ensures),
+          ∙ ap (λ (k : ℕ). drain_from blank (c.args.budget - (c.loop-steps.steps + 1)) (c.loop-steps.steps + 1) k c.worker_step.new.workers (g.S.Store.model c.worker_step.new.store) (log_view c.worker_step.new.log)) (sym c.next_worker-k.ensures),
       (λ i. step.image (inv.1 i)),
       step.lender ∙ inv.2,
       step.lent ∙ inv.3,

@@ -25,7 +25,7 @@ returns-in-Ok g c =
     let m = g.S.Store.model c.args.store.now in
     let ws = c.args.workers.now in
     let l = log_view c.args.log.now in
-    let made = c.lay-out.new in
+    let made = c.lay_out.new in
     let did = c.perform.ensures in
     record {
       rehearses = (

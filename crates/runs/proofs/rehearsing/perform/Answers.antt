@@ -11,7 +11,7 @@ use Rattle.runs.proofs.rehearsing.perform.Goals as goal
 
 pub returns : goal.returns
 returns g c =
-    let took = c.take-turns-held in
+    let took = c.take_turns-held in
     let did = took.ensures in
     let done = c.finish-end.ensures in
     let f : SFits w64 c.finish-end.result = search rules in

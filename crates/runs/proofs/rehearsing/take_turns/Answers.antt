@@ -17,7 +17,7 @@ returns-in-Some g c =
     let blank = g.I.ItemKind.blank in
     let reason = queue_reason g.S.Fault.Refusal.reason in
     let q = queue_of (g.S.Store.model c.loop-i.store) (receiver_view c.loop-i.receiver) c.loop-i.workers (log_view c.loop-i.log) (permit_of c.loop-i.held) in
-    let taken = c.take-turn-permit in
+    let taken = c.take_turn-permit in
     let new = queue_of (g.S.Store.model taken.new.store) (receiver_view taken.new.receiver) taken.new.workers (log_view taken.new.log) (permit_of taken.result.held) in
     let turns = c.args.turns.now in
     let i = c.loop-i.i in
@@ -40,13 +40,13 @@ loop-i-preserved g c =
     let blank = g.I.ItemKind.blank in
     let reason = queue_reason g.S.Fault.Refusal.reason in
     let q = queue_of (g.S.Store.model c.loop-i.store) (receiver_view c.loop-i.receiver) c.loop-i.workers (log_view c.loop-i.log) (permit_of c.loop-i.held) in
-    let taken = c.take-turn-permit in
+    let taken = c.take_turn-permit in
     let new = queue_of (g.S.Store.model taken.new.store) (receiver_view taken.new.receiver) taken.new.workers (log_view taken.new.log) (permit_of taken.result.held) in
     let turns = c.args.turns.now in
     let i = c.loop-i.i in
     let did = taken.ensures in (
       turns_step blank reason _ turns i q c.loop-i.left.now new taken.result.items.now taken.result.fault c.loop-i-test.true inv.0 did.went
-          ∙ ap (λ o. went reason o i new (take_turns blank (i + 1) new taken.result.items.now (drop (i + 1) turns))) c.in-default.is,
+          ∙ ap (λ o. went reason o i new (take_turns blank (i + 1) new taken.result.items.now (drop (i + 1) turns))) c.in_default.is,
       did.hand,
       did.size ∙ inv.2,
       (λ h. did.image (inv.3 h)),

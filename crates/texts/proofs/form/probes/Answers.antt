@@ -12,13 +12,13 @@ returns-then-words-gt64 c = probes_many token_of c.args.words.now c.if-words-gt6
 
 pub loop-word-preserved : goal.loop-word-preserved
 loop-word-preserved c =
-    let pushed = chosen _ _ _ _ c.push.ensures.items (ap is_ok c.in-ok-push.was) in (
+    let pushed = chosen _ _ _ _ c.push.ensures.items (ap is_ok c.in_ok-push.was) in (
       one_more token_of c.args.words.now number c.loop-word.word-index _ (vec_items c.loop-word.probes) (vec_items c.push.new.self) c.in-Some.probe c.loop-word.invariant.0 (omega arith) (number_from _ _ (sym c.in-Some.ensures)) pushed,
       subst (AllByRecursion (λ p. p ≤ 65535)) (sym pushed) (all_by_recursion_push (λ p. p ≤ 65535) _ _ c.loop-word.invariant.1 (omega arith)),
     )
 
-pub returns-in-default : goal.returns-in-default
-returns-in-default c = not_a_probe token_of c.args.words.now c.loop-word.word-index _ (omega arith) (sym c.in-default.ensures)
+pub returns-in_default : goal.returns-in_default
+returns-in_default c = not_a_probe token_of c.args.words.now c.loop-word.word-index _ (omega arith) (sym c.in_default.ensures)
 
 pub returns-then-probe-gt65535 : goal.returns-then-probe-gt65535
 returns-then-probe-gt65535 c =

@@ -13,22 +13,22 @@ returns-then-words-gt64 c = stretches_many token_of c.args.words.now c.args.work
 
 pub loop-word-preserved : goal.loop-word-preserved
 loop-word-preserved c =
-    let pushed = chosen _ _ _ _ c.push.ensures.items (ap is_ok c.in-ok-push.was) in
+    let pushed = chosen _ _ _ _ c.push.ensures.items (ap is_ok c.in_ok-push.was) in
     let w = c.args.workers in
-    let fits = c.if-not-stretch-fits.ensures.0 refl in (
+    let fits = c.if-not-stretch_fits.ensures.0 refl in (
       one_more token_of c.args.words.now stretch_word c.loop-word.word-index _ (vec_items c.loop-word.stretches) (vec_items c.push.new.self) c.in-Some.next c.loop-word.invariant.0 (omega arith) (stretch_from _ _ (sym c.in-Some.ensures)) pushed,
       subst (AllByRecursion (λ s. (s.party ≤ w) × (1 ≤ s.count))) (sym pushed) (all_by_recursion_push (λ s. (s.party ≤ w) × (1 ≤ s.count)) (vec_items c.loop-word.stretches) c.in-Some.next c.loop-word.invariant.1 (fits.0, fits.1)),
       omega (arith, ap turn_count pushed, turn_count_push (vec_items c.loop-word.stretches) c.in-Some.next, fits.2),
     )
 
-pub returns-in-default : goal.returns-in-default
-returns-in-default c =
-    not_a_stretch token_of c.args.words.now c.loop-word.word-index _ (omega arith) c.args.workers (sym c.in-default.ensures)
+pub returns-in_default : goal.returns-in_default
+returns-in_default c =
+    not_a_stretch token_of c.args.words.now c.loop-word.word-index _ (omega arith) c.args.workers (sym c.in_default.ensures)
 
-pub returns-then-not-stretch-fits : goal.returns-then-not-stretch-fits
-returns-then-not-stretch-fits c =
+pub returns-then-not-stretch_fits : goal.returns-then-not-stretch_fits
+returns-then-not-stretch_fits c =
     stretch_unfit token_of c.args.words.now c.loop-word.word-index _ (omega arith) c.args.workers c.in-Some.next (vec_items c.loop-word.stretches) c.loop-word.room (sym c.in-Some.ensures) c.loop-word.invariant.0 c.loop-word.invariant.2
-    (λ f. false≢true (c.if-not-stretch-fits.ensures.1 f))
+    (λ f. false≢true (c.if-not-stretch_fits.ensures.1 f))
 
 pub returns : goal.returns
 returns c =

@@ -11,7 +11,7 @@ loop-preserved c =
     let old = vec_items c.args.turns.now in
     let n = c.loop.counter in
     let party = c.args.stretch.party in
-    chosen _ _ _ _ c.push.ensures.items (ap is_ok c.in-ok-push.was) ∙ ap (λ l. l ++ party ∷ []) c.loop.invariant
+    chosen _ _ _ _ c.push.ensures.items (ap is_ok c.in_ok-push.was) ∙ ap (λ l. l ++ party ∷ []) c.loop.invariant
     ∙ append_assoc old (replicate n party) (party ∷ []) ∙ ap (λ l. old ++ l) (replicate_more n party)
 
 pub returns : goal.returns

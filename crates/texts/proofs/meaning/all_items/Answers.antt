@@ -7,7 +7,7 @@ use Rattle.texts.proofs.meaning.all_items.Goals as goal
 
 pub loop-j-preserved : goal.loop-j-preserved
 loop-j-preserved c =
-    let pushed = chosen _ _ _ _ c.push.ensures.items (ap is_ok c.in-ok-push.was) in
+    let pushed = chosen _ _ _ _ c.push.ensures.items (ap is_ok c.in_ok-push.was) in
     items_more c.args.probes.now c.loop-j.j 0 _ _ (omega arith) c.loop-j.invariant
     (pushed ∙ ap (λ x. vec_items c.loop-j.items ++ x ∷ []) c.item.ensures)
 

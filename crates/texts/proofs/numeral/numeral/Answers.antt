@@ -6,12 +6,12 @@ use Rattle.grammar.proofs.Digits.{none_empty, none_leading, none_large, at_digit
 use Rattle.texts.proofs.numeral.numeral.Goals as goal
 use Rattle.texts.proofs.numeral.numeral.Goals.{then-is-empty-via-then-is-empty, then-is-empty-via-else-is-empty+then-has-leading-zero}
 
-pub returns-then-is-empty : goal.returns-then-is-empty
-returns-then-is-empty c =
+pub returns-then-is_empty : goal.returns-then-is_empty
+returns-then-is_empty c =
     let ds = c.args.digits.now in
-    elim c.then-is-empty.branch [
-      | then-is-empty-via-then-is-empty w ↦ none_empty ds (eqb-true _ 0 (sym w.if-is-empty.ensures))
-      | then-is-empty-via-else-is-empty+then-has-leading-zero w ↦ let z = w.if-has-leading-zero.ensures.0 refl in none_leading ds z.0 z.1
+    elim c.then-is_empty.branch [
+      | then-is_empty-via-then-is_empty w ↦ none_empty ds (eqb-true _ 0 (sym w.if-is_empty.ensures))
+      | then-is_empty-via-else-is_empty+then-has_leading_zero w ↦ let z = w.if-has_leading_zero.ensures.0 refl in none_leading ds z.0 z.1
     ]
 
 pub overflow-sub-digit : goal.overflow-sub-digit
@@ -31,6 +31,6 @@ pub returns : goal.returns
 returns c =
     let ds = c.args.digits.now in
     let all = take_all c.loop-digit.digit-index ds (omega arith) in
-    let some : 0 < length ds = omega (arith, eqb-false (length ds) 0 (sym c.if-is-empty.ensures)) in
-    let lead : get_or ds 0 0 ≡ 48 → length ds ≡ 1 = λ z. ⊎_elim (λ m. absurd (false≢true (c.if-has-leading-zero.ensures.1 (m, z)))) (λ m. omega (arith, some)) (cases_lt 1 (length ds)) in
+    let some : 0 < length ds = omega (arith, eqb-false (length ds) 0 (sym c.if-is_empty.ensures)) in
+    let lead : get_or ds 0 0 ≡ 48 → length ds ≡ 1 = λ z. ⊎_elim (λ m. absurd (false≢true (c.if-has_leading_zero.ensures.1 (m, z)))) (λ m. omega (arith, some)) (cases_lt 1 (length ds)) in
     some_value ds c.loop-digit.value c.requires some lead c.loop-digit.invariant.0 (c.loop-digit.invariant.1 ∙ ap (digits_value 10) all)

@@ -18,7 +18,7 @@ pub loop-end-preserved : goal.loop-end-preserved
 loop-end-preserved c =
     let t = c.args.self.now.text.now in
     let e = between_more t c.args.self.now.at c.loop-end.end 0 (omega arith) (omega arith) in
-    let d = is_digit _ c.if-is-ascii-digit.ensures.value in (
+    let d = is_digit _ c.if-is_ascii_digit.ensures.value in (
       omega arith,
       omega arith,
       subst AllDigits (sym e) (digits_push _ _ c.loop-end.invariant.2 d.0 d.1),
@@ -38,7 +38,7 @@ returns c =
       digits = c.loop-end.invariant.2;
       cut = part_rest t a c.loop-end.end c.loop-end.invariant.0;
       ended = no_digit_at t c.loop-end.end (λ h. elim c.loop-end-test.branch [
-        | then-loop-end-test+else-is-ascii-digit w ↦ no_digit (get_or t c.loop-end.end 0) w.if-is-ascii-digit.ensures.value
+        | then-loop-end-test+else-is_ascii_digit w ↦ no_digit (get_or t c.loop-end.end 0) w.if-is_ascii_digit.ensures.value
         | else-loop-end-test w ↦ absurd (omega (arith, w.loop-end-test.false))
       ]);
     }

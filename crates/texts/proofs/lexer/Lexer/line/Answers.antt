@@ -15,13 +15,13 @@ loop-word-init c =
     let l = c.eat.new.self in
     subst (Reading l l) (sym c.new-words.ensures.items) (line_start c.if-eat.ensures)
 
-pub returns-in-default : goal.returns-in-default
-returns-in-default c = subst (λ (l : Lexer). NoLine (left l)) c.if-eat.ensures.same (no_word c.loop-word.invariant c.in-default.ensures)
+pub returns-in_default : goal.returns-in_default
+returns-in_default c = subst (λ (l : Lexer). NoLine (left l)) c.if-eat.ensures.same (no_word c.loop-word.invariant c.in_default.ensures)
 
 pub returns-then-eat-2 : goal.returns-then-eat-2
 returns-then-eat-2 c =
     let new = c.eat-in-loop-word.new.self in
-    let pushed = chosen _ _ _ _ c.push.ensures.items (ap is_ok c.in-ok-push.was) in
+    let pushed = chosen _ _ _ _ c.push.ensures.items (ap is_ok c.in_ok-push.was) in
     let done = line_done c.loop-word.invariant c.in-Some.ensures c.if-eat-2.ensures in
     subst (λ (l : Lexer). LinePassed l (vec_items c.push.new.self) new) c.if-eat.ensures.same
     (subst (λ l. LinePassed c.eat.new.self l new) (sym pushed) done)
@@ -36,6 +36,6 @@ loop-word-smaller c = less_left c.loop-word.invariant c.in-Some.ensures c.if-eat
 
 pub loop-word-preserved : goal.loop-word-preserved
 loop-word-preserved c =
-    let pushed = chosen _ _ _ _ c.push.ensures.items (ap is_ok c.in-ok-push.was) in
+    let pushed = chosen _ _ _ _ c.push.ensures.items (ap is_ok c.in_ok-push.was) in
     subst (Reading c.eat.new.self c.eat-in-loop-word-2.new.self) (sym pushed)
     (line_more c.loop-word.invariant c.in-Some.ensures c.if-eat-2.ensures c.if-not-eat.ensures)
