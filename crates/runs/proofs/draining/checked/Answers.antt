@@ -18,7 +18,7 @@ returns-in-Some g c =
       drained =
           by_checks g.I.ItemKind.blank reason c.args.budget ws m l (Some (run_reason reason c.in-Some.fault)) (Err (record { steps = 0; fault = c.in-Some.fault })) ws m l
           (sym (said.reason reason)) (as_ended g.I.ItemKind.blank reason _ (Err (record { steps = 0; fault = c.in-Some.fault })) ws m l refl);
-      fault = checks_own g.S.Fault.Refusal.reason g.S.Fault.Refusal.layer c.in-Some.fault said.own_val;
+      fault = checks_own g.S.Fault.Refusal.reason g.S.Fault.Refusal.layer c.in-Some.fault said.own;
       refused = λ _. (refl, refl, refl);
       image = λ i. i;
       lender = refl;

@@ -4,7 +4,7 @@ use Rattle.std.proofs.lemmas.List.{take_all}
 use Rattle.std.proofs.lemmas.Bool.{eqb-true, eqb-false, cases_lt, false≢true}
 use Rattle.grammar.proofs.Digits.{none_empty, none_leading, none_large, at_digit, value_next, some_value}
 use Rattle.texts.proofs.numeral.numeral.Goals as goal
-use Rattle.texts.proofs.numeral.numeral.Goals.{then-is-empty-via-then-is-empty, then-is-empty-via-else-is-empty+then-has-leading-zero}
+use Rattle.texts.proofs.numeral.numeral.Goals.{then-is_empty-via-then-is_empty, then-is_empty-via-else-is_empty+then-has_leading_zero}
 
 pub returns-then-is_empty : goal.returns-then-is_empty
 returns-then-is_empty c =
@@ -14,8 +14,8 @@ returns-then-is_empty c =
       | then-is_empty-via-else-is_empty+then-has_leading_zero w ↦ let z = w.if-has_leading_zero.ensures.0 refl in none_leading ds z.0 z.1
     ]
 
-pub overflow-sub-digit : goal.overflow-sub-digit
-overflow-sub-digit c = omega (arith, at_digit c.args.digits.now c.loop-digit.digit-index c.requires (omega arith))
+pub overflow_sub-digit : goal.overflow_sub-digit
+overflow_sub-digit c = omega (arith, at_digit c.args.digits.now c.loop-digit.digit-index c.requires (omega arith))
 
 pub returns-then-value-ge-LIMIT : goal.returns-then-value-ge-LIMIT
 returns-then-value-ge-LIMIT c =

@@ -6,7 +6,7 @@ use Rattle.grammar.specs.Scans.{AllDigits}
 use Rattle.grammar.proofs.Digits.{digits_push}
 use Rattle.grammar.proofs.Places.{no_digit_at, part_rest, line_same}
 use Rattle.texts.proofs.lexer.Lexer.digits.Goals as goal
-use Rattle.texts.proofs.lexer.Lexer.digits.Goals.{then-loop-end-test+else-is-ascii-digit, else-loop-end-test}
+use Rattle.texts.proofs.lexer.Lexer.digits.Goals.{then-loop-end-test+else-is_ascii_digit, else-loop-end-test}
 
 is_digit : (b : ℕ) → true ≡ is_ascii_digit b → (48 ≤ b) × (b ≤ 57)
 is_digit b h = (grind (arith, nat_tests), grind (arith, nat_tests))
@@ -25,8 +25,8 @@ loop-end-preserved c =
       line_same t c.loop-end.end (omega arith) (λ n. omega (arith, d.0)) ∙ c.loop-end.invariant.3,
     )
 
-pub invariant-of-self : goal.invariant-of-self
-invariant-of-self c = (c.loop-end.invariant.1, (c.args.self.now.placed ∙ sym c.loop-end.invariant.3, tt))
+pub invariant_of-self : goal.invariant_of-self
+invariant_of-self c = (c.loop-end.invariant.1, (c.args.self.now.placed ∙ sym c.loop-end.invariant.3, tt))
 
 pub returns : goal.returns
 returns c =

@@ -12,13 +12,13 @@ returns-then-self c =
       | then-self-via-else-self+then-self-b w ↦ record { same = refl; other = λ n. w.if-self-b.true ((next_at t a c.args.b (omega arith)).1 n) }
     ]
 
-pub overflow-add-line : goal.overflow-add-line
-overflow-add-line c =
+pub overflow_add-line : goal.overflow_add-line
+overflow_add-line c =
     let l : c.args.self.now.line + 1 ≤ c.args.self.now.at + 2 = omega (arith, line_le c.args.self.now.text.now c.args.self.now.at, c.args.self.now.placed) in
     search rules
 
-pub invariant-of-self : goal.invariant-of-self
-invariant-of-self c =
+pub invariant_of-self : goal.invariant_of-self
+invariant_of-self c =
     let t = c.args.self.now.text.now in
     let a = c.args.self.now.at in (
       omega arith,
