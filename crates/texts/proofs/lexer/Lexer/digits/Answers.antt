@@ -26,7 +26,7 @@ loop-end-preserved c =
     )
 
 pub invariant_of-self : goal.invariant_of-self
-invariant_of-self c = (c.loop-end.invariant.1, (c.args.self.now.placed ∙ sym c.loop-end.invariant.3, tt))
+invariant_of-self c = record { within = c.loop-end.invariant.1; placed = c.args.self.now.placed ∙ sym c.loop-end.invariant.3 }
 
 pub returns : goal.returns
 returns c =

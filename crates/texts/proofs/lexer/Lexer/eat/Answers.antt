@@ -20,16 +20,15 @@ overflow_add-line c =
 pub invariant_of-self : goal.invariant_of-self
 invariant_of-self c =
     let t = c.args.self.now.text.now in
-    let a = c.args.self.now.at in (
-      omega arith,
-      (
-        elim c.if-b-eq10.branch [
-          | then-b-eq10 w ↦ omega (arith, w.line-is, c.args.self.now.placed, line_feed t a (omega arith) (omega arith))
-          | else-b-eq10 w ↦ omega (arith, w.line-is, c.args.self.now.placed, line_same t a (omega arith) (λ e. w.if-b-eq10.false (omega arith)))
-        ],
-        tt,
-      ),
-    )
+    let a = c.args.self.now.at in
+    record {
+      within = omega arith;
+      placed =
+          elim c.if-b-eq10.branch [
+            | then-b-eq10 w ↦ omega (arith, w.line-is, c.args.self.now.placed, line_feed t a (omega arith) (omega arith))
+            | else-b-eq10 w ↦ omega (arith, w.line-is, c.args.self.now.placed, line_same t a (omega arith) (λ e. w.if-b-eq10.false (omega arith)))
+          ];
+    }
 
 pub returns : goal.returns
 returns c = record {
