@@ -1,5 +1,5 @@
 -- The model of a store that is arranged over another.
-use Rattle.std.specs.Prelude.{◌≡◌, ℕ, ◌+◌, ◌<◌, Bool, cond, List, [], map, length, get_or, set, replicate, Result, slice_index_or, slice_set}
+use Rattle.std.specs.Prelude.{◌≡◌, ℕ, ◌+◌, ◌<◌, Bool, cond, List, [], map, length, get_or, replicate, Result, slice_index_or, slice_set}
 use Rattle.std.specs.List.{range_with_len}
 use Rattle.stores.specs.declared.refusal.Layer.{Layer}
 use Rattle.stores.specs.Refusals.{Reason}

@@ -1,8 +1,8 @@
 -- A line at the front of a text can be read in one way.
-use Rattle.std.proofs.Common.{◌≡◌, ℕ, ◌<◌, ◌≤◌, List, [], ◌∷◌, ◌++◌, sym, refl, ap, ◌∙◌, subst, append_assoc, arith}
+use Rattle.std.proofs.Common.{◌≡◌, ℕ, ◌≤◌, List, [], ◌∷◌, ◌++◌, sym, refl, ap, ◌∙◌, subst, append_assoc, arith}
 use Rattle.std.specs.List.{AllByRecursion}
 use Rattle.grammar.specs.Lines.{Token, number, turns, token_text, rest_text, line_text}
-use Rattle.grammar.specs.Scans.{NoDigitNext, NextIs, Small, Ended, NoWord, NoLine}
+use Rattle.grammar.specs.Scans.{NextIs, Small, Ended, NoWord, NoLine}
 use Rattle.grammar.proofs.Tokens.{one_token, not_first}
 
 -- a word ends before a space or a line feed

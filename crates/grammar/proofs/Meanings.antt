@@ -1,5 +1,5 @@
 -- The items and the turns of a plan, one by one.
-use Rattle.std.proofs.Common.{◌≡◌, ℕ, zero, suc, ◌+◌, ◌<◌, List, [], ◌∷◌, ◌++◌, length, get_or, take, replicate, sym, refl, ap, ◌∙◌, arith, length-take}
+use Rattle.std.proofs.Common.{◌≡◌, ℕ, ◌+◌, ◌<◌, List, [], ◌∷◌, ◌++◌, length, get_or, take, replicate, sym, ap, ◌∙◌, arith, length-take}
 use Rattle.items.specs.declared.reading.Reading.{Reading}
 use Rattle.std.proofs.lemmas.List.{take_more, flat_map_more}
 use Rattle.grammar.specs.declared.plan.Stretch.{Stretch}

@@ -1,10 +1,10 @@
 -- A text has one reading, and how the lines that were read tell it.
-use Rattle.std.proofs.Common.{◌≡◌, ℕ, zero, suc, ◌+◌, ◌-◌, ◌<◌, ◌≤◌, List, [], ◌∷◌, ◌++◌, map, length, sym, refl, ap, ◌∙◌, subst, ⊎_elim, append_assoc, append-nil, arith}
+use Rattle.std.proofs.Common.{◌≡◌, ℕ, zero, suc, ◌-◌, ◌<◌, ◌≤◌, List, [], ◌∷◌, ◌++◌, map, length, sym, refl, ap, ◌∙◌, subst, ⊎_elim, append_assoc, append-nil, arith}
 use Rattle.std.proofs.lemmas.List.{nil_from_length}
 use Rattle.std.proofs.lemmas.Bool.{cases_lt}
 use Rattle.grammar.specs.declared.plan.Header.{Header}
 use Rattle.grammar.specs.declared.plan.Stretch.{Stretch}
-use Rattle.grammar.specs.Lines.{Token, number, turns, line_text}
+use Rattle.grammar.specs.Lines.{Token, number, line_text}
 use Rattle.grammar.specs.Plans.{PlanModel, HeaderFits, ProbesFit, StretchesFit, header_words, probe_words, stretch_word, stretch_words, plan_text, InForm, GoodLines, none, one, two, three, all, FirstBad, OneReading}
 use Rattle.grammar.specs.Scans.{NoLineOf}
 use Rattle.grammar.proofs.Forms.{same_header, header_small, probes_small, stretches_small}

@@ -1,5 +1,5 @@
 -- A word at the front of a text can be read in one way.
-use Rattle.std.proofs.Common.{◌≡◌, ℕ, ◌<◌, ◌≤◌, List, [], ◌∷◌, ◌++◌, length, Some, None, decimal, sym, refl, ap, ◌∙◌, subst, append_assoc, arith}
+use Rattle.std.proofs.Common.{◌≡◌, ℕ, ◌<◌, List, [], ◌∷◌, ◌++◌, length, Some, None, decimal, sym, refl, ap, ◌∙◌, subst, append_assoc, arith}
 use Rattle.std.proofs.lemmas.Fmt.{decimal_nonempty, decimal_injective}
 use Rattle.grammar.specs.Lines.{Token, number, turns, token_text}
 use Rattle.grammar.specs.Scans.{NoDigitNext, NextIs, limit, Small, NumberNext, Ended, NoWord}

@@ -1,5 +1,5 @@
 -- What the lines of a plan stand for.
-use Rattle.std.specs.Prelude.{ℕ, ◌+◌, ◌%◌, ◌^◌, List, [], ◌∷◌, ◌++◌, replicate, pos}
+use Rattle.std.specs.Prelude.{ℕ, ◌+◌, ◌%◌, ◌^◌, List, [], ◌∷◌, replicate, pos}
 use Rattle.std.specs.List.{flat_map}
 use Rattle.items.specs.declared.reading.Reading.{Reading}
 use Rattle.grammar.specs.declared.plan.Stretch.{Stretch}

@@ -1,5 +1,5 @@
 -- One call of a life: what it makes of the queue, and what it answers.
-use Rattle.std.specs.Prelude.{◌≡◌, ℕ, Ok, Err, Result}
+use Rattle.std.specs.Prelude.{◌≡◌, Ok, Err, Result}
 use Rattle.stores.specs.declared.refusal.Layer.{Layer}
 use Rattle.stores.specs.Refusals.{Reason}
 use Rattle.protocol.specs.declared.answer.Call.{Call}

@@ -8,7 +8,7 @@ use Rattle.protocol.specs.declared.answer.Call.{Call}
 use Rattle.protocol.specs.declared.answer.Call.TheVariants.{Submit, Withdraw, ReceiverStep, WorkerStep, Close}
 use Rattle.protocol.specs.declared.answer.Answer.{Answer}
 use Rattle.protocol.specs.declared.answer.Answer.TheVariants.{NotMade, Refused, Submitted, Withdrew, Received, Worked, Closed}
-use Rattle.protocol.specs.Lives.{Queue, make}
+use Rattle.protocol.specs.Lives.{Queue}
 use Rattle.protocol.proofs.Lives.{sizes_kept}
 use Rattle.queue.specs.declared.fault.QueueFault.{QueueFault}
 use Rattle.queue.specs.Faults.{Own, Carries}

@@ -1,9 +1,6 @@
 -- The tail never passes the highest rank, and the end mark is -1 or set.
-use Rattle.std.proofs.Common.{◌≡◌, ℕ, ◌+◌, ◌^◌, ◌<◌, ◌≤◌, Bool, true, false, cond, ◌⊎◌, List, ℤ, pos, negsuc, sym, refl, subst, inl, inr, arith}
-use Rattle.protocol.specs.declared.record.ReceiverPhase.{ReceiverPhase}
-use Rattle.protocol.specs.declared.record.ReceiverPhase.TheVariants.{Probing, Busy, Found, Filled}
+use Rattle.std.proofs.Common.{◌≡◌, ℕ, ◌+◌, ◌^◌, ◌≤◌, ◌⊎◌, List, ℤ, pos, negsuc, sym, refl, subst, inl, inr, arith}
 use Rattle.protocol.specs.Pending.{pending}
-use Rattle.protocol.specs.Tests.{is_open}
 use Rattle.protocol.specs.State.{Sizes, State}
 use Rattle.protocol.specs.Events.{Event}
 use Rattle.protocol.specs.Steps.{Step, is_not_made, is_refused, submits, withdraws, closes, finds_used, finds_free, skips, fills, announces, idle_finds_over, claims, becomes_sure, doubts, marks, gives_up, waits, passes, passed_finds_over, moves_on, copies, delivers, Run, here, then, closed_end}

@@ -1,6 +1,6 @@
 -- A closed queue of a life is drained within the bound.
-use Rattle.std.proofs.Common.{◌≡◌, ℕ, zero, suc, ◌+◌, ◌-◌, ◌*◌, ◌^◌, ◌<◌, ◌≤◌, Bool, true, false, cond, leb, ◌⊎◌, List, length, get_or, pos, Some, None, Ok, Err, Option, Result, sym, refl, ap, ◌∙◌, subst, inl, inr, arith}
-use Rattle.std.proofs.lemmas.Bool.{leb-true, leb-false}
+use Rattle.std.proofs.Common.{◌≡◌, ℕ, zero, suc, ◌+◌, ◌-◌, ◌*◌, ◌^◌, ◌<◌, ◌≤◌, Bool, true, false, cond, leb, ◌⊎◌, List, length, get_or, pos, Some, Ok, Err, Option, Result, sym, refl, ap, ◌∙◌, subst, inl, inr, arith}
+use Rattle.std.proofs.lemmas.Bool.{leb-false}
 use Rattle.stores.specs.declared.cell.Cell.{Cell}
 use Rattle.stores.specs.Refusals.{Reason}
 use Rattle.stores.specs.Model.{Contents, size}
@@ -13,7 +13,7 @@ use Rattle.protocol.specs.declared.answer.WorkerAnswer.TheVariants.{Over, Claime
 use Rattle.protocol.specs.Tests.{is_idle}
 use Rattle.protocol.specs.Records.{Receiver, Log}
 use Rattle.protocol.specs.Rules.{Worked, worker_step}
-use Rattle.protocol.specs.State.{Permit, Sizes, State}
+use Rattle.protocol.specs.State.{Permit, Sizes}
 use Rattle.protocol.specs.Events.{worked}
 use Rattle.protocol.specs.Steps.{Step}
 use Rattle.protocol.specs.Account.{Announcement, Account, note}

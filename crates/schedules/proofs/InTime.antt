@@ -1,5 +1,5 @@
 -- A closed queue that a life led to: the steps that drain it, and the budget that finishes it.
-use Rattle.std.proofs.Common.{◌≡◌, ℕ, zero, suc, ◌+◌, ◌-◌, ◌*◌, ◌^◌, ◌<◌, ◌≤◌, min, Bool, true, false, cond, ◌&&◌, eqb, ltb, leb, ◌⊎◌, List, [], ◌∷◌, map, length, get_or, ℤ, pos, negsuc, is_some, Some, None, Ok, Err, Option, Result, sym, refl, ap, ◌∙◌, subst, inl, inr, mul-add, arith}
+use Rattle.std.proofs.Common.{◌≡◌, ℕ, zero, suc, ◌+◌, ◌-◌, ◌*◌, ◌^◌, ◌<◌, ◌≤◌, min, Bool, true, false, cond, ◌&&◌, eqb, ltb, leb, ◌⊎◌, List, [], ◌∷◌, map, length, get_or, ℤ, pos, negsuc, is_some, Some, None, Option, sym, refl, ap, ◌∙◌, subst, inl, inr, arith}
 use Rattle.std.proofs.lemmas.List.{length-map, length-replicate}
 use Rattle.std.proofs.lemmas.Bool.{and_parts, leb-true, ltb-true, ltb-false, eqb-false, ne_eqb, lt-ltb, le-ltb, le-leb}
 use Rattle.stores.specs.declared.cell.Cell.{Cell}
@@ -13,7 +13,7 @@ use Rattle.protocol.specs.Tests.{limit, is_open}
 use Rattle.protocol.specs.Records.{Receiver, Log}
 use Rattle.protocol.specs.Rules.{no_lay_out, idled}
 use Rattle.protocol.specs.Rules as rules
-use Rattle.protocol.specs.State.{Permit, Sizes, State}
+use Rattle.protocol.specs.State.{Permit, Sizes}
 use Rattle.protocol.specs.Account.{Account, one_if, account, blank_account}
 use Rattle.protocol.specs.Lives.{Queue, queue_of, make, after}
 use Rattle.protocol.specs.Views.{sizes, view, no_worker, history, laid_out}
@@ -23,9 +23,9 @@ use Rattle.protocol.proofs.Lives.{sizes_kept, life_runs, laid_out_is}
 use Rattle.schedules.specs.Drains.{Drained, most_steps, refusal, no_drain, drain_from, drain_unless, drained}
 use Rattle.schedules.specs.Budgets.{holding, unclaimed, steps_enough, FinishedOrLogFull, DrainedInTime}
 use Rattle.schedules.proofs.Sums.{sum, sum_at_most, sum_small}
-use Rattle.schedules.proofs.WorkLeft.{steps_due, steps_due_few, due, is_announced}
+use Rattle.schedules.proofs.WorkLeft.{steps_due, steps_due_few, due}
 use Rattle.schedules.proofs.Bounds.{Bounded, always_bounded}
-use Rattle.schedules.proofs.Draining.{InBounds, Here, work, drains}
+use Rattle.schedules.proofs.Draining.{InBounds, work, drains}
 
 -- ---- what an accepted lay out says
 

@@ -1,5 +1,5 @@
 -- The steps that the workers of a closed queue have left at most: each of them takes one away.
-use Rattle.std.proofs.Common.{◌≡◌, ℕ, ◌+◌, ◌-◌, ◌*◌, ◌%◌, ◌<◌, ◌≤◌, Bool, true, false, ltb, leb, ◌≢◌, ◌⊎◌, List, pos, Some, None, Option, sym, refl, ap, ◌∙◌, subst, inl, inr, arith}
+use Rattle.std.proofs.Common.{◌≡◌, ℕ, ◌+◌, ◌-◌, ◌*◌, ◌%◌, ◌<◌, ◌≤◌, Bool, true, false, ltb, ◌⊎◌, List, pos, Some, sym, refl, ap, ◌∙◌, subst, inl, inr, arith}
 use Rattle.std.proofs.lemmas.Bool.{cases_lt, leb-false, lt-ltb, le-ltb}
 use Rattle.protocol.specs.declared.record.WorkerPhase.{WorkerPhase}
 use Rattle.protocol.specs.declared.record.WorkerPhase.TheVariants.{Idle, Seeking, Doubting, Marked, Passed, Sure, Copied}
@@ -10,7 +10,7 @@ use Rattle.protocol.specs.Tests.{ended_by}
 use Rattle.protocol.specs.State.{Sizes, State, put}
 use Rattle.protocol.specs.Events.{worked}
 use Rattle.protocol.specs.Steps.{Step, idle_finds_over, claims, becomes_sure, doubts, marks, gives_up, waits, passes, passed_finds_over, moves_on, copies, delivers, own_cell, own_rank, in_phase}
-use Rattle.protocol.specs.Account.{Announcement, Account, In, times, times_announced, note_worked, note}
+use Rattle.protocol.specs.Account.{Announcement, Account, In, times_announced, note}
 use Rattle.protocol.specs.Promise.{announcement}
 use Rattle.protocol.proofs.Tables.{put_same, equals_yes, equals_no, covers_no}
 use Rattle.protocol.proofs.Counts.{announced_none, announced_some}

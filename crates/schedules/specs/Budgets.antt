@@ -9,7 +9,7 @@ use Rattle.protocol.specs.Records.{Receiver, Log}
 use Rattle.protocol.specs.Rules.{no_lay_out}
 use Rattle.protocol.specs.State.{Permit}
 use Rattle.protocol.specs.Account.{Account, one_if, account}
-use Rattle.protocol.specs.Lives.{Queue, queue_of, after}
+use Rattle.protocol.specs.Lives.{queue_of, after}
 use Rattle.protocol.specs.Views.{history, laid_out}
 use Rattle.schedules.specs.Drains.{refusal}
 

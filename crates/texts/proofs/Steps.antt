@@ -3,7 +3,7 @@ use Rattle.std.proofs.Common.{◌≡◌, ℕ, ◌+◌, ◌-◌, ◌<◌, ◌≤�
 use Rattle.std.specs.List.{AllByRecursion}
 use Rattle.std.proofs.slice.Lists.{all_by_recursion_push}
 use Rattle.std.proofs.lemmas.List.{map_push}
-use Rattle.grammar.specs.Lines.{Token, token_text, line_text}
+use Rattle.grammar.specs.Lines.{token_text, line_text}
 use Rattle.grammar.specs.Scans.{line_at, NextIs, Small, Ended, NoWord, NoLine}
 use Rattle.grammar.proofs.Lines.{Within, start, one_more, last, broken, no_word_no_line}
 use Rattle.grammar.proofs.Places.{part_is, part_rest, next_cut, next_within, next_at, line_feed, line_same}

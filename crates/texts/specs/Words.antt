@@ -1,5 +1,5 @@
 -- What the lexer finds: each word is a part of the text, with its line.
-use Rattle.std.specs.Prelude.{◌≡◌, ℕ, ◌+◌, ◌-◌, ◌≤◌, Bool, true, false, List, [], ◌∷◌, ◌++◌, map, take, drop, Some, None, vec_items, Option, Vec}
+use Rattle.std.specs.Prelude.{◌≡◌, ℕ, ◌+◌, ◌-◌, ◌≤◌, Bool, true, false, List, ◌++◌, map, take, drop, Some, None, vec_items, Option, Vec}
 use Rattle.std.specs.List.{AllByRecursion}
 use Rattle.grammar.specs.Lines.{Token, number, turns, token_text, line_text}
 use Rattle.grammar.specs.Scans.{line_at, AllDigits, NoDigitNext, NextIs, Small, NumberNext, Ended, NoWord, NoLine}

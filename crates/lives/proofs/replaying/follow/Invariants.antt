@@ -1,5 +1,4 @@
 use Rattle.std.proofs.Common.{◌≡◌, take}
-use Rattle.protocol.specs.Lives.{answers}
 use Rattle.queue.specs.Receivers.{receiver_view}
 use Rattle.queue.specs.Logs.{log_view}
 use Rattle.lives.specs.Permits.{permit_of}

@@ -1,6 +1,5 @@
 use Rattle.queue.specs.Logs.{log_view}
 use Rattle.queue.specs.Faults.{queue_reason}
-use Rattle.schedules.proofs.InTime.{drained_in_time}
 use Rattle.runs.proofs.DrainAnswers.{in_time_too}
 use Rattle.runs.proofs.draining.bounded.Goals as goal
 

@@ -1,4 +1,4 @@
-use Rattle.std.proofs.Common.{◌+◌, drop, IfSome, sym, ap, ◌∙◌, subst}
+use Rattle.std.proofs.Common.{◌+◌, drop, IfSome, ap, ◌∙◌, subst}
 use Rattle.protocol.specs.Lives.{queue_of}
 use Rattle.queue.specs.Faults.{queue_reason}
 use Rattle.queue.specs.Logs.{log_view}

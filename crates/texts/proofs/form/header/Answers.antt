@@ -1,6 +1,5 @@
-use Rattle.std.proofs.Common.{◌≡◌, [], ◌∷◌, map, sym, refl, arith}
+use Rattle.std.proofs.Common.{sym, refl, arith}
 use Rattle.std.proofs.lemmas.Bool.{false≢true}
-use Rattle.grammar.specs.Lines.{number}
 use Rattle.grammar.proofs.Forms.{number_from, three_words, header_not_three, header_not_number, header_unfit}
 use Rattle.texts.specs.Words.{token_of}
 use Rattle.texts.proofs.form.header.Goals as goal

@@ -1,4 +1,4 @@
-use Rattle.std.proofs.Common.{◌≡◌, ◌≤◌, is_ok, vec_items, sym, refl, ap, subst, arith}
+use Rattle.std.proofs.Common.{◌≤◌, is_ok, vec_items, sym, refl, ap, subst, arith}
 use Rattle.std.specs.List.{AllByRecursion}
 use Rattle.std.proofs.ResultArms.{chosen}
 use Rattle.std.proofs.slice.Lists.{all_by_recursion_push}

@@ -1,4 +1,4 @@
-use Rattle.std.proofs.Common.{◌≡◌, [], ◌∷◌, ◌++◌, replicate, is_ok, vec_items, sym, ap, ◌∙◌, append_assoc, append-nil, arith}
+use Rattle.std.proofs.Common.{[], ◌∷◌, ◌++◌, replicate, is_ok, vec_items, sym, ap, ◌∙◌, append_assoc, append-nil, arith}
 use Rattle.std.proofs.ResultArms.{chosen}
 use Rattle.std.proofs.lemmas.List.{replicate_more}
 use Rattle.texts.proofs.meaning.add_turns.Goals as goal

@@ -1,4 +1,4 @@
-use Rattle.std.proofs.Common.{◌≡◌, ◌+◌, ◌≤◌, sym, refl, ◌∙◌, arith, rules}
+use Rattle.std.proofs.Common.{◌+◌, ◌≤◌, refl, arith, rules}
 use Rattle.grammar.proofs.Places.{next_at, next_past, line_le, line_feed, line_same}
 use Rattle.texts.proofs.lexer.Lexer.eat.Goals as goal
 use Rattle.texts.proofs.lexer.Lexer.eat.Goals.{then-self-via-then-self, then-self-via-else-self+then-self-b, then-b-eq10, else-b-eq10}

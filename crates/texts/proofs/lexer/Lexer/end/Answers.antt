@@ -1,4 +1,4 @@
-use Rattle.std.proofs.Common.{◌≡◌, ◌<◌, length, Err, sym, refl, subst, arith, length-drop}
+use Rattle.std.proofs.Common.{◌<◌, length, Err, sym, refl, subst, arith, length-drop}
 use Rattle.texts.specs.Parsing.{EndParsed}
 use Rattle.texts.specs.Words.{left}
 use Rattle.texts.proofs.lexer.Lexer.end.Goals as goal

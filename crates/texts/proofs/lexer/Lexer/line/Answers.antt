@@ -1,4 +1,4 @@
-use Rattle.std.proofs.Common.{◌≡◌, is_ok, vec_items, sym, ap, subst}
+use Rattle.std.proofs.Common.{is_ok, vec_items, sym, ap, subst}
 use Rattle.std.proofs.ResultArms.{chosen}
 use Rattle.grammar.specs.Scans.{NoLine}
 use Rattle.texts.specs.declared.lexer.Lexer.{Lexer}
