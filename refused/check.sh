@@ -1,27 +1,32 @@
 #!/usr/bin/env bash
 # Wrong programs that the compiler must refuse, and a mended twin of each that it must prove.
 # NAME.txt is wrong; each line of NAME.words stands in what the compiler says of it; NAME.mended.txt is the twin.
-# It needs the proved libraries in target/rlib: run it after `rt check queue` or `rt ci`.
+# Each text becomes a crate above copies of the libraries, in a repository of their own. Run it at any time: what is not
+# proved there yet is proved first.
 set -euo pipefail
 here=$(cd "$(dirname "$0")" && pwd -P)
-rlib=$(dirname "$here")/target/rlib
-libraries='queue protocol stores items'
-
-words=(-L "dependency=$rlib")
-for l in $libraries; do
-    [ -d "$rlib/$l.rlib" ] || { echo "refused: no library $rlib/$l.rlib: run rt check queue first"; exit 2; }
-    words+=(--extern "$l=$rlib/$l.rlib")
-done
+crates=$(dirname "$here")/crates
+libraries='items stores protocol queue'
 
 tmp=$(mktemp -d)
 trap 'rm -rf "$tmp"' EXIT
+mkdir "$tmp/crates"
+git init -q "$tmp"
+for l in $libraries; do
+    mkdir "$tmp/crates/$l"
+    for part in src specs proofs; do
+        if [ -d "$crates/$l/$part" ]; then cp -r "$crates/$l/$part" "$tmp/crates/$l/"; fi
+    done
+    grep "^$l:" "$(dirname "$here")/crates.txt" >>"$tmp/crates.txt"
+done
 
-# Checks a text as a crate outside the repository. What the compiler says goes to $tmp/said.
+# Checks a text as a crate above the libraries. What the compiler says goes to $tmp/said.
 check() { # TEXT NAME
-    mkdir -p "$tmp/$2/src"
-    cp "$1" "$tmp/$2/src/lib.rt"
+    mkdir -p "$tmp/crates/$2/src"
+    cp "$1" "$tmp/crates/$2/src/lib.rt"
+    echo "$2: $libraries" >>"$tmp/crates.txt"
     status=0
-    rt check "$tmp/$2" "${words[@]}" >"$tmp/said" 2>&1 || status=$?
+    (cd "$tmp/crates/$2" && rt check) >"$tmp/said" 2>&1 || status=$?
 }
 
 bad=0
@@ -54,7 +59,7 @@ for text in "$here"/*.txt; do
     fi
 
     check "$here/$name.mended.txt" "${name}_mended"
-    if [ "$status" -eq 0 ] && grep -q '^logic=proved ' "$tmp/said"; then
+    if [ "$status" -eq 0 ] && tail -n 1 "$tmp/said" | grep -q '^logic=proved '; then
         echo "refused: $name.mended is proved"
     else
         wrong "$name.mended: BAD, it is not proved"
