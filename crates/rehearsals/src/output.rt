@@ -1,5 +1,5 @@
 // All that is printed, in one text.
-ghost use Rattle.std.specs.Prelude.{◌≡◌, ℕ, List, replicate, IfOk, string_bytes};
+ghost use Rattle.std.specs.Prelude.{◌≡◌, ℕ, ◌^◌, ◌<◌, ◌≤◌, List, length, replicate, IfOk, string_bytes};
 ghost use Rattle.grammar.specs.Plans.{HeaderFits};
 ghost use Rattle.texts.specs.Parsing.{plan_model};
 ghost use Rattle.rehearsals.specs.Outputs.{idle_worker, no_entry, staged, plan_rehearsal, ended_text, Printed};
@@ -44,6 +44,29 @@ const MAX_WORKERS: usize = 8;
 
 const LOG_ROOM: usize = 64;
 
+// The text of a rehearsal in lent memory.
+fn text_in(
+    heap: Global,
+    cells: &mut [Cell<Reading>],
+    workers: &mut [Worker<Reading>],
+    entries: &mut [Entry<Reading>],
+    start: u64,
+    items: &[Reading],
+    turns: &[usize],
+) -> Result<String, AllocError>
+    requires cells { (0 < length cells.old) × (length cells.old ≤ 65536) }
+    requires workers { (0 < length workers.old) × (length workers.old ≤ 64) }
+    requires start { start < 2 ^ 40 }
+    ensures { IfOk result (λ s. string_bytes s ≡ ended_text (staged (length cells.old) workers.old entries.old start items.now turns.now)) }
+{
+    let Outcome {
+        logged,
+        stopped,
+        end,
+    } = run(cells, workers, entries, start, items, turns);
+    report(heap, &entries[0..logged], stopped, end)
+}
+
 // The text of a rehearsal in memory of its own.
 fn rehearsed_text(
     heap: Global,
@@ -59,19 +82,15 @@ fn rehearsed_text(
     let mut cells = [FRESH; MAX_CELLS];
     let mut workers = [IDLE; MAX_WORKERS];
     let mut entries = [NO_ENTRY; LOG_ROOM];
-    let Outcome {
-        logged,
-        stopped,
-        end,
-    } = run(
+    text_in(
+        heap,
         &mut cells[0..n],
         &mut workers[0..count],
         &mut entries,
         header.start,
         items,
         turns,
-    );
-    report(heap, &entries[0..logged], stopped, end)
+    )
 }
 
 fn plan_text(heap: Global, plan: &Plan) -> Result<String, AllocError>

@@ -1,8 +1,7 @@
-use Rattle.std.proofs.Common.{◌≡◌, ℕ, min, length, sym, ap, ◌∙◌, w64, SFits, rules}
+use Rattle.std.proofs.Common.{◌≡◌, min, length, ap, ◌∙◌, w64, SFits, rules}
 use Rattle.std.specs.Option.{option_map}
 use Rattle.std.proofs.lemmas.Int.{to_z-of_z}
 use Rattle.items.specs.Readings.{zero_reading}
-use Rattle.stores.specs.Model.{size}
 use Rattle.stores.specs.Records.{record_model}
 use Rattle.arrangements.specs.Places.{every_size, same_number}
 use Rattle.arrangements.specs.Arranged.{arranged_model}
