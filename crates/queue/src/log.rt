@@ -59,7 +59,7 @@ impl<'a, I: Copy> Log<'a, I> {
     // How many entries are kept.
     pub fn count(&self) -> usize
         ensures value { result ≡ min (log_view self.now).count (length (log_view self.now).entries) }
-        ensures same { self.now ≡ self.now }
+        ensures same { self.exit.now ≡ self.entry.now }
     {
         self.count.min(self.entries.len())
     }

@@ -24,27 +24,27 @@ pub trait Store {
 
     fn cells(&self) -> usize
         ensures value { result ≡ size (model self.now) }
-        ensures same { self.now ≡ self.now };
+        ensures same { self.exit.now ≡ self.entry.now };
 
     fn head(&self) -> u64
         ensures value { result ≡ (model self.now).head }
-        ensures same { self.now ≡ self.now };
+        ensures same { self.exit.now ≡ self.entry.now };
 
     fn end_mark(&self) -> i64
         ensures value { result ≡ (model self.now).end }
-        ensures same { self.now ≡ self.now };
+        ensures same { self.exit.now ≡ self.entry.now };
 
     fn item(&self, i: usize) -> Result<Self::Item, Self::Fault>
         ensures value { Answered Self.Fault.Refusal.reason (no_cell Self.Fault.Refusal.layer (model self.now) i) (cell_of Self.Item.ItemKind.blank (model self.now) i).item result }
-        ensures same { self.now ≡ self.now };
+        ensures same { self.exit.now ≡ self.entry.now };
 
     fn rank(&self, i: usize) -> Result<i64, Self::Fault>
         ensures value { Answered Self.Fault.Refusal.reason (no_cell Self.Fault.Refusal.layer (model self.now) i) (cell_of Self.Item.ItemKind.blank (model self.now) i).rank result }
-        ensures same { self.now ≡ self.now };
+        ensures same { self.exit.now ≡ self.entry.now };
 
     fn gap(&self, i: usize) -> Result<i64, Self::Fault>
         ensures value { Answered Self.Fault.Refusal.reason (no_cell Self.Fault.Refusal.layer (model self.now) i) (cell_of Self.Item.ItemKind.blank (model self.now) i).gap result }
-        ensures same { self.now ≡ self.now };
+        ensures same { self.exit.now ≡ self.entry.now };
 
     fn put_item(&mut self, i: usize, item: Self::Item) -> Result<(), Self::Fault>
         ensures done { Done Self.Fault.Refusal.reason (no_cell Self.Fault.Refusal.layer (model self.old) i) tt model (with_item Self.Item.ItemKind.blank (model self.old) i item) self.old self.new result }

@@ -43,7 +43,7 @@ impl<I: ItemKind> Receiver<I> {
         ensures answer { refusal_of (queue_reason S.Fault.Refusal.reason) result ≡ no_submit (receiver_view self.old) (S.Store.model store.now) }
         ensures own { IfErr result (λ e. Own e.fault) }
         ensures receiver { receiver_view self.new ≡ unless (no_submit (receiver_view self.old) (S.Store.model store.now)) (handed (receiver_view self.old) item) (receiver_view self.old) }
-        ensures same { store.now ≡ store.now }
+        ensures same { store.exit.now ≡ store.entry.now }
         ensures refused { OnErr result (self.new ≡ self.old) }
     {
         if store.cells() == 0 {
@@ -88,7 +88,7 @@ impl<I: ItemKind> Receiver<I> {
     ) -> Result<i64, Refused<FreePermit, QueueFault<S::Fault>>>
         ensures answer { close_answer (queue_reason S.Fault.Refusal.reason) result ≡ answer_unless (no_close (receiver_view self.now) (S.Store.model store.old)) (closed_at (receiver_view self.now) (S.Store.model store.old)) }
         ensures own { IfErr result (λ e. Own e.fault) }
-        ensures receiver { self.now ≡ self.now }
+        ensures receiver { self.exit.now ≡ self.entry.now }
         ensures model { S.Store.model store.new ≡ unless (no_close (receiver_view self.now) (S.Store.model store.old)) (with_end (S.Store.model store.old) (closed_at (receiver_view self.now) (S.Store.model store.old))) (S.Store.model store.old) }
         ensures refused { OnErr result (store.new ≡ store.old) }
         ensures image { S.Store.imaged store.old → S.Store.imaged store.new }
