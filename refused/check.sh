@@ -1,8 +1,8 @@
 #!/usr/bin/env bash
 # Wrong programs that the compiler must refuse, and a mended twin of each that it must prove.
 # NAME.txt is wrong; each line of NAME.words stands in what the compiler says of it; NAME.mended.txt is the twin.
-# Each text becomes a crate above copies of the libraries, in a repository of their own. Run it at any time: what is not
-# proved there yet is proved first.
+# Each text becomes a crate above copies of the libraries, in a folder of their own. Run it at any time: the first text's
+# check proves the libraries, and the others use that.
 set -euo pipefail
 here=$(cd "$(dirname "$0")" && pwd -P)
 crates=$(dirname "$here")/crates
@@ -11,7 +11,6 @@ libraries='items stores protocol queue'
 tmp=$(mktemp -d)
 trap 'rm -rf "$tmp"' EXIT
 mkdir "$tmp/crates"
-git init -q "$tmp"
 for l in $libraries; do
     mkdir "$tmp/crates/$l"
     for part in src specs proofs; do
