@@ -3,7 +3,7 @@ use Rattle.std.proofs.Common.{◌≡◌, ℕ, ◌*◌, ◌<◌, true, List, leng
 use Rattle.std.proofs.lemmas.Bool.{and_from, lt-ltb, le-leb, eq-eqb, both_ways}
 use Rattle.stores.specs.Model.{Contents, size}
 use Rattle.layout.specs.Blocks.{fit, blocks_for, Checked}
-use Rattle.layout.specs.Image.{plain, image}
+use Rattle.layout.specs.Image.{plain}
 use Rattle.layout.proofs.Images.{checked_bytes, length_bytes}
 use Rattle.blocks.specs.declared.fault.BlockFault.{BlockFault}
 use Rattle.blocks.specs.declared.fault.BlockFault.TheVariants.{Unfit, BadCheck}

@@ -7,8 +7,7 @@ ghost use Rattle.blocks.specs.Inspection.{fit_answer, Inspected, IsImage};
 use crate::fault::BlockFault;
 use crate::reading::BLOCK_CELLS;
 use crate::words::{BLOCK_BYTES, CHECK_WORD, check_of, word_at};
-
-pub(crate) const MAX_CELLS: usize = 65_536;
+use stores::MAX_CELLS;
 
 pub(crate) fn is_fit(size: usize, n: usize) -> bool
     ensures { result ≡ fit size n }

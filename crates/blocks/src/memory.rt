@@ -1,28 +1,30 @@
 // Block memory: a store over lent bytes.
 ghost use Rattle.std.specs.Prelude.{◌≡◌, ◌^◌, ◌≤◌, false, length};
 ghost use Rattle.layout.specs.Blocks.{fit};
+ghost use Rattle.layout.specs.Decoding.{Imaged, Imaged-prop};
 ghost use Rattle.blocks.specs.Models.{made_model};
-ghost use Rattle.blocks.specs.Memory.{memory_model, memory_bound, memory_imaged, memory};
 
 use crate::slices;
-use crate::slices::MAX_HEAD;
 use items::ItemKind;
 use std::marker::PhantomData;
-use stores::{Store, StoreFault};
+use stores::{MAX_HEAD, Store, StoreFault, check_cell, check_some, check_start};
 
 #[derive(Drop)]
-pub struct BlockMemory<'a, I> {
+pub struct BlockMemory<'a, I: ItemKind> {
     mem: &'a mut [u8],
     // The number of cells, if the memory's size fits it; else there are none.
     n: usize,
     kind: PhantomData<I>,
+    // The bytes are the image of what they mean.
+    ghost image: { Imaged I.ItemKind.word I.ItemKind.item n mem.now } by { Imaged-prop _ _ _ _ },
 }
 
 impl<'a, I: ItemKind> BlockMemory<'a, I> {
+    ghost use Rattle.blocks.specs.Memory.{memory_model, memory};
+
     // A store of `n` cells over these bytes, cleared at 0. Bytes that do not fit are left alone.
     pub fn new(mem: &'a mut [u8], n: usize) -> BlockMemory<'a, I>
-        ensures model { memory_model I.ItemKind.item result ≡ made_model I.ItemKind.blank (length mem.old) n }
-        ensures image { memory_imaged I.ItemKind.word I.ItemKind.item result }
+        ensures model { memory_model result ≡ made_model I.ItemKind.blank (length mem.old) n }
         ensures alone { fit (length mem.old) n ≡ false → memory result ≡ mem.old }
         ensures lent { result.mem.ghost_name ≡ mem.entry.ghost_name }
     {
@@ -35,7 +37,7 @@ impl<'a, I: ItemKind> BlockMemory<'a, I> {
     }
 
     fn bounded_head(&self) -> u64
-        ensures value { result ≡ (memory_model I.ItemKind.item self.now).head }
+        ensures value { result ≡ (memory_model self.now).head }
         ensures bound { result ≤ 2 ^ 40 }
     {
         slices::head_in::<I>(self.mem, self.n)
@@ -43,15 +45,19 @@ impl<'a, I: ItemKind> BlockMemory<'a, I> {
 }
 
 impl<'a, I: ItemKind> Store for BlockMemory<'a, I> {
+    ghost use Rattle.blocks.specs.Memory.{memory_model, memory_bound, memory_imaged};
+
     type Item = I;
 
     type Fault = StoreFault;
 
-    ghost model = { memory_model I.ItemKind.item };
+    ghost model = { memory_model };
 
-    ghost bound = { memory_bound I.ItemKind.item };
+    ghost bound = { memory_bound };
 
-    ghost imaged = { memory_imaged I.ItemKind.word I.ItemKind.item };
+    ghost imaged = { memory_imaged };
+
+    ghost image = { λ s. s.image };
 
     ghost lender = { λ s. s.mem.ghost_name };
 
@@ -68,66 +74,50 @@ impl<'a, I: ItemKind> Store for BlockMemory<'a, I> {
     }
 
     fn item(&self, i: usize) -> Result<I, StoreFault> {
-        if i >= self.cells() {
-            return Err(StoreFault::NoSuchCell(i));
-        }
+        check_cell(self.cells(), i)?;
         Ok(slices::item_in(self.mem, self.n, i))
     }
 
     fn rank(&self, i: usize) -> Result<i64, StoreFault> {
-        if i >= self.cells() {
-            return Err(StoreFault::NoSuchCell(i));
-        }
+        check_cell(self.cells(), i)?;
         Ok(slices::rank_in::<I>(self.mem, self.n, i))
     }
 
     fn gap(&self, i: usize) -> Result<i64, StoreFault> {
-        if i >= self.cells() {
-            return Err(StoreFault::NoSuchCell(i));
-        }
+        check_cell(self.cells(), i)?;
         Ok(slices::gap_in::<I>(self.mem, self.n, i))
     }
 
     fn put_item(&mut self, i: usize, item: I) -> Result<(), StoreFault> {
-        if i >= self.cells() {
-            return Err(StoreFault::NoSuchCell(i));
-        }
+        check_cell(self.cells(), i)?;
         let n = self.n;
         slices::put_item_in(self.mem, n, i, item);
         Ok(())
     }
 
     fn put_rank(&mut self, i: usize, rank: i64) -> Result<(), StoreFault> {
-        if i >= self.cells() {
-            return Err(StoreFault::NoSuchCell(i));
-        }
+        check_cell(self.cells(), i)?;
         let n = self.n;
         slices::put_rank_in::<I>(self.mem, n, i, rank);
         Ok(())
     }
 
     fn put_gap(&mut self, i: usize, gap: i64) -> Result<(), StoreFault> {
-        if i >= self.cells() {
-            return Err(StoreFault::NoSuchCell(i));
-        }
+        check_cell(self.cells(), i)?;
         let n = self.n;
         slices::put_gap_in::<I>(self.mem, n, i, gap);
         Ok(())
     }
 
     fn set_end(&mut self, mark: i64) -> Result<(), StoreFault> {
-        if self.cells() == 0 {
-            return Err(StoreFault::NoCells);
-        }
+        check_some(self.cells())?;
         let n = self.n;
         slices::set_end_in::<I>(self.mem, n, mark);
         Ok(())
     }
 
     fn next_rank(&mut self) -> Result<u64, StoreFault> {
-        if self.cells() == 0 {
-            return Err(StoreFault::NoCells);
-        }
+        check_some(self.cells())?;
         let rank = self.bounded_head();
         if rank == MAX_HEAD {
             return Err(StoreFault::RanksUsedUp);
@@ -138,12 +128,7 @@ impl<'a, I: ItemKind> Store for BlockMemory<'a, I> {
     }
 
     fn clear(&mut self, start: u64) -> Result<(), StoreFault> {
-        if self.cells() == 0 {
-            return Err(StoreFault::NoCells);
-        }
-        if start >= MAX_HEAD {
-            return Err(StoreFault::StartTooHigh);
-        }
+        check_start(self.cells(), start)?;
         let n = self.n;
         slices::clear_in::<I>(self.mem, n, start);
         Ok(())

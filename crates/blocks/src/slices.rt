@@ -10,8 +10,7 @@ use crate::inspection::is_fit;
 use crate::reading::{BLOCK_CELLS, part_at};
 use crate::words::{store_word, word_at};
 use items::ItemKind;
-
-pub(crate) const MAX_HEAD: u64 = 1 << 40;
+use stores::MAX_HEAD;
 
 pub(crate) fn cells_in<I: ItemKind>(mem: &[u8], n: usize) -> usize
     ensures { result ≡ size (block_model I.ItemKind.item n mem.now) }

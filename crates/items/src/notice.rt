@@ -35,22 +35,18 @@ impl ItemKind for Notice {
     }
 
     fn decode(w: u64) -> Notice {
-        let number = w % 65536;
         let probe = (w / 65536 % 65536) as u16;
         let value = (w / 4294967296) as u32;
-        if number == 1 && value == 0 {
-            Notice::SilentProbe { probe }
-        } else if number == 2 && value < 65536 {
-            Notice::Battery {
+        match w % 65536 {
+            1 if value == 0 => Notice::SilentProbe { probe },
+            2 if value < 65536 => Notice::Battery {
                 probe,
                 millivolts: value as u16,
-            }
-        } else if number == 3 && probe == 0 {
-            Notice::ClockShift {
+            },
+            3 if probe == 0 => Notice::ClockShift {
                 seconds: value.cast_signed(),
-            }
-        } else {
-            Notice::Nothing
+            },
+            _ => Notice::Nothing,
         }
     }
 }

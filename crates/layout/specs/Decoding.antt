@@ -1,6 +1,7 @@
 -- The model that the bytes of a block memory have.
 use Rattle.std.specs.Prelude.{◌≡◌, ℕ, ◌+◌, ◌*◌, ◌/◌, ◌%◌, ◌^◌, min, true, cond, List, map, length}
 use Rattle.std.specs.Int.{w64}
+use Rattle.std.proofs.Props.{props}
 use Rattle.std.proofs.Common.{to_z}
 use Rattle.std.specs.List.{range_with_len}
 use Rattle.stores.specs.declared.cell.Cell.{Cell}
@@ -35,3 +36,8 @@ block_model item n m = cond (fit (length m) n) (decoded item n m) no_contents
 -- the bytes m, if they fit n cells, are the image of their model
 unfoldable pub Imaged : {X : Type 0} → (X → ℕ) → (ℕ → X) → ℕ → List ℕ → Type 0
 Imaged word item n m = fit (length m) n ≡ true → m ≡ image (in_words word (block_model item n m))
+
+-- there is one proof of it at most
+pub Imaged-prop : {X : Type 0} (word : X → ℕ) (item : ℕ → X) (n : ℕ) (m : List ℕ) → IsProp (Imaged word item n m)
+unfolding Imaged
+Imaged-prop word item n m = Prim.hlevel props

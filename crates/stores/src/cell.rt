@@ -1,4 +1,9 @@
 // One cell of a store.
+ghost use Rattle.std.specs.Prelude.{◌≡◌};
+ghost use Rattle.stores.specs.Model.{fresh_cell};
+
+use items::ItemKind;
+
 #[derive(Clone, Copy, PartialEq, Eq, Debug)]
 pub struct Cell<I> {
     pub item: I,
@@ -6,4 +11,17 @@ pub struct Cell<I> {
     pub rank: i64,
     // The highest rank for which the receiver passed the cell by; -1 while there is none.
     pub gap: i64,
+}
+
+impl<I: ItemKind> Cell<I> {
+    // A free cell, as after a clear.
+    pub fn fresh() -> Cell<I>
+        ensures { result ≡ fresh_cell I.ItemKind.blank }
+    {
+        Cell {
+            item: I::blank(),
+            rank: -1,
+            gap: -1,
+        }
+    }
 }

@@ -2,12 +2,15 @@
 #![tactic(auto)]
 
 mod cell;
+mod checks;
+mod limits;
 mod record;
 mod refusal;
-mod slices;
 mod store;
 
 pub use cell::Cell;
+pub use checks::{check_cell, check_some, check_start};
+pub use limits::{MAX_CELLS, MAX_HEAD};
 pub use record::RecordMemory;
 pub use refusal::{Layer, Refusal, StoreFault};
 pub use store::Store;

@@ -1,17 +1,13 @@
 // Record memory: a store over lent cell records.
-ghost use Rattle.std.specs.Prelude.{◌≡◌, false, length};
-ghost use Rattle.stores.specs.Model.{fresh_cell};
+ghost use Rattle.std.specs.Prelude.{◌≡◌, false, length, replicate};
 ghost use Rattle.stores.specs.Records.{record_model, record_bound, records_fit, records, made_model};
 
 use crate::cell::Cell;
+use crate::checks::{check_cell, check_some, check_start};
+use crate::limits::{MAX_CELLS, MAX_HEAD};
 use crate::refusal::StoreFault;
-use crate::slices;
 use crate::store::Store;
 use items::ItemKind;
-
-const MAX_CELLS: usize = 65_536;
-
-const MAX_HEAD: u64 = 1 << 40;
 
 #[derive(Drop)]
 pub struct RecordMemory<'a, I> {
@@ -22,16 +18,6 @@ pub struct RecordMemory<'a, I> {
     end: i64,
 }
 
-fn fresh_cell<I: ItemKind>() -> Cell<I>
-    ensures { result ≡ fresh_cell I.ItemKind.blank }
-{
-    Cell {
-        item: I::blank(),
-        rank: -1,
-        gap: -1,
-    }
-}
-
 impl<'a, I: ItemKind> RecordMemory<'a, I> {
     // A store over these records, cleared at 0. Records that make no store are left alone.
     pub fn new(cells: &'a mut [Cell<I>]) -> RecordMemory<'a, I>
@@ -40,7 +26,7 @@ impl<'a, I: ItemKind> RecordMemory<'a, I> {
         ensures lent { result.cells.ghost_name ≡ cells.entry.ghost_name }
     {
         if fits(cells.len()) {
-            slices::fill(cells, fresh_cell());
+            fill(cells, Cell::fresh());
         }
         RecordMemory {
             cells,
@@ -50,10 +36,19 @@ impl<'a, I: ItemKind> RecordMemory<'a, I> {
     }
 }
 
+// The library's `fill` clones, which it can't know to succeed for every kind of item.
+fn fill<I: Copy>(cells: &mut [Cell<I>], cell: Cell<I>)
+    ensures { cells.new ≡ replicate (length cells.old) cell }
+{
+    for c in cells.iter_mut() {
+        *c = cell;
+    }
+}
+
 fn fits(n: usize) -> bool
     ensures { result ≡ records_fit n }
 {
-    1 <= n && n <= MAX_CELLS
+    (1..=MAX_CELLS).contains(&n)
 }
 
 impl<'a, I: ItemKind> Store for RecordMemory<'a, I> {
@@ -67,6 +62,8 @@ impl<'a, I: ItemKind> Store for RecordMemory<'a, I> {
 
     // The records are the cells themselves.
     ghost imaged = { λ _. Unit {0} };
+
+    ghost image = { λ _. tt };
 
     ghost lender = { λ s. s.cells.ghost_name };
 
@@ -91,62 +88,46 @@ impl<'a, I: ItemKind> Store for RecordMemory<'a, I> {
     }
 
     fn item(&self, i: usize) -> Result<I, StoreFault> {
-        if i >= self.cells() {
-            return Err(StoreFault::NoSuchCell(i));
-        }
-        Ok(slices::cell_at(self.cells, i).item)
+        check_cell(self.cells(), i)?;
+        Ok(self.cells[i].item)
     }
 
     fn rank(&self, i: usize) -> Result<i64, StoreFault> {
-        if i >= self.cells() {
-            return Err(StoreFault::NoSuchCell(i));
-        }
-        Ok(slices::cell_at(self.cells, i).rank)
+        check_cell(self.cells(), i)?;
+        Ok(self.cells[i].rank)
     }
 
     fn gap(&self, i: usize) -> Result<i64, StoreFault> {
-        if i >= self.cells() {
-            return Err(StoreFault::NoSuchCell(i));
-        }
-        Ok(slices::cell_at(self.cells, i).gap)
+        check_cell(self.cells(), i)?;
+        Ok(self.cells[i].gap)
     }
 
     fn put_item(&mut self, i: usize, item: I) -> Result<(), StoreFault> {
-        if i >= self.cells() {
-            return Err(StoreFault::NoSuchCell(i));
-        }
+        check_cell(self.cells(), i)?;
         self.cells[i].item = item;
         Ok(())
     }
 
     fn put_rank(&mut self, i: usize, rank: i64) -> Result<(), StoreFault> {
-        if i >= self.cells() {
-            return Err(StoreFault::NoSuchCell(i));
-        }
+        check_cell(self.cells(), i)?;
         self.cells[i].rank = rank;
         Ok(())
     }
 
     fn put_gap(&mut self, i: usize, gap: i64) -> Result<(), StoreFault> {
-        if i >= self.cells() {
-            return Err(StoreFault::NoSuchCell(i));
-        }
+        check_cell(self.cells(), i)?;
         self.cells[i].gap = gap;
         Ok(())
     }
 
     fn set_end(&mut self, mark: i64) -> Result<(), StoreFault> {
-        if self.cells() == 0 {
-            return Err(StoreFault::NoCells);
-        }
+        check_some(self.cells())?;
         self.end = mark;
         Ok(())
     }
 
     fn next_rank(&mut self) -> Result<u64, StoreFault> {
-        if self.cells() == 0 {
-            return Err(StoreFault::NoCells);
-        }
+        check_some(self.cells())?;
         let rank = self.head;
         if rank >= MAX_HEAD {
             return Err(StoreFault::RanksUsedUp);
@@ -156,13 +137,8 @@ impl<'a, I: ItemKind> Store for RecordMemory<'a, I> {
     }
 
     fn clear(&mut self, start: u64) -> Result<(), StoreFault> {
-        if self.cells() == 0 {
-            return Err(StoreFault::NoCells);
-        }
-        if start >= MAX_HEAD {
-            return Err(StoreFault::StartTooHigh);
-        }
-        slices::fill(self.cells, fresh_cell());
+        check_start(self.cells(), start)?;
+        fill(self.cells, Cell::fresh());
         self.head = start;
         self.end = -1;
         Ok(())

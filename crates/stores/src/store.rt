@@ -16,8 +16,10 @@ pub trait Store {
 
     ghost bound: { (s : Self) → (model s).head ≤ 2 ^ 40 };
 
-    // The memory under the store is the image of the model.
+    // The memory under the store is the image of the model; `image` says that it always is.
     ghost imaged: { Self → Type 0 };
+
+    ghost image: { (s : Self) → imaged s };
 
     // The ghost name of the memory that is lent to the store: whoever lent it knows what it holds afterwards.
     ghost lender: { Self → ℕ };
@@ -48,32 +50,26 @@ pub trait Store {
 
     fn put_item(&mut self, i: usize, item: Self::Item) -> Result<(), Self::Fault>
         ensures done { Done Self.Fault.Refusal.reason (no_cell Self.Fault.Refusal.layer (model self.old) i) tt model (with_item Self.Item.ItemKind.blank (model self.old) i item) self.old self.new result }
-        ensures image { imaged self.old → imaged self.new }
         ensures lender { lender self.new ≡ lender self.old };
 
     fn put_rank(&mut self, i: usize, rank: i64) -> Result<(), Self::Fault>
         ensures done { Done Self.Fault.Refusal.reason (no_cell Self.Fault.Refusal.layer (model self.old) i) tt model (with_rank Self.Item.ItemKind.blank (model self.old) i rank) self.old self.new result }
-        ensures image { imaged self.old → imaged self.new }
         ensures lender { lender self.new ≡ lender self.old };
 
     fn put_gap(&mut self, i: usize, gap: i64) -> Result<(), Self::Fault>
         ensures done { Done Self.Fault.Refusal.reason (no_cell Self.Fault.Refusal.layer (model self.old) i) tt model (with_gap Self.Item.ItemKind.blank (model self.old) i gap) self.old self.new result }
-        ensures image { imaged self.old → imaged self.new }
         ensures lender { lender self.new ≡ lender self.old };
 
     fn set_end(&mut self, mark: i64) -> Result<(), Self::Fault>
         ensures done { Done Self.Fault.Refusal.reason (no_end Self.Fault.Refusal.layer (model self.old)) tt model (with_end (model self.old) mark) self.old self.new result }
-        ensures image { imaged self.old → imaged self.new }
         ensures lender { lender self.new ≡ lender self.old };
 
     // Answers the head, and raises it by one.
     fn next_rank(&mut self) -> Result<u64, Self::Fault>
         ensures done { Done Self.Fault.Refusal.reason (no_rank Self.Fault.Refusal.layer (model self.old)) (model self.old).head model (with_head (model self.old) ((model self.old).head + 1)) self.old self.new result }
-        ensures image { imaged self.old → imaged self.new }
         ensures lender { lender self.new ≡ lender self.old };
 
     fn clear(&mut self, start: u64) -> Result<(), Self::Fault>
         ensures done { Done Self.Fault.Refusal.reason (no_clear Self.Fault.Refusal.layer (model self.old) start) tt model (cleared Self.Item.ItemKind.blank (size (model self.old)) start) self.old self.new result }
-        ensures image { imaged self.old → imaged self.new }
         ensures lender { lender self.new ≡ lender self.old };
 }
