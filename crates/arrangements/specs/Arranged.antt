@@ -1,11 +1,13 @@
 -- The model of a store that is arranged over another.
-use Rattle.std.specs.Prelude.{◌≡◌, ℕ, ◌+◌, ◌<◌, Bool, cond, List, [], map, length, get_or, replicate, Result, slice_index_or, slice_set}
+use Rattle.std.specs.Prelude.{◌≡◌, ℕ, ◌+◌, ◌<◌, ◌≤◌, Bool, cond, List, [], map, length, get_or, replicate, Result, MatchResult, slice_index_or, slice_set}
 use Rattle.std.specs.List.{range_with_len}
 use Rattle.stores.specs.declared.refusal.Layer.{Layer}
 use Rattle.stores.specs.Refusals.{Reason}
 use Rattle.stores.specs.Calls.{no_rank, no_clear, Done}
 use Rattle.stores.specs.Model.{Contents, size, fresh_cell, with_head, cleared}
 use Rattle.arrangements.specs.declared.arranged.ArrangedStore.{ArrangedStore}
+use Rattle.arrangements.specs.declared.fault.ArrangementFault.{ArrangementFault}
+use Rattle.arrangements.specs.declared.fault.ArrangementFault.TheVariants.{NoSuchCell, NoCells}
 
 -- element i is the one at i's place in xs; there is none where the length of xs doesn't fit
 unfoldable pub rearranged : {X : Type 0} → X → (ℕ → Bool) → (ℕ → ℕ → ℕ) → List X → List X
@@ -38,3 +40,20 @@ pub record CellsAbove {X : Type 0} (d : X) (fits : ℕ → Bool) (place : ℕ �
   pub read : (i : ℕ) → i < n → slice_index_or (rearranged d fits place xs) i d ≡ slice_index_or xs (place n i) d
   pub write : (i : ℕ) (x : X) → i < n → rearranged d fits place (slice_set xs (place n i) x) ≡ slice_set (rearranged d fits place xs) i x
   pub fill : (x : X) → 0 < n → rearranged d fits place (replicate (length xs) x) ≡ replicate n x
+
+-- r is that number, or it is refused since there are none
+abbrev pub SomeAbove : {X F : Type 0} → X → (ℕ → Bool) → (ℕ → ℕ → ℕ) → List X → Result ℕ (ArrangementFault F) → Type 0
+SomeAbove d fits place xs r =
+    MatchResult r (λ n. (0 < n) × CellsAbove d fits place xs n) (λ f. (f ≡ NoCells) × (length (rearranged d fits place xs) ≡ 0))
+
+-- p is the place below of cell i above: what is read or set there is read or set in cell i
+pub record PlacedAt {X : Type 0} (d : X) (fits : ℕ → Bool) (place : ℕ → ℕ → ℕ) (xs : List X) (i p : ℕ) : Type 0 where
+  pub above : i < length (rearranged d fits place xs)
+  pub below : p < length xs
+  pub read : slice_index_or (rearranged d fits place xs) i d ≡ slice_index_or xs p d
+  pub write : (x : X) → rearranged d fits place (slice_set xs p x) ≡ slice_set (rearranged d fits place xs) i x
+
+-- r is the place below of cell i above, or it is refused since there is no such cell
+abbrev pub PlaceBelow : {X F : Type 0} → X → (ℕ → Bool) → (ℕ → ℕ → ℕ) → List X → ℕ → Result ℕ (ArrangementFault F) → Type 0
+PlaceBelow d fits place xs i r =
+    MatchResult r (PlacedAt d fits place xs i) (λ f. (f ≡ NoSuchCell i) × (length (rearranged d fits place xs) ≤ i))

@@ -23,10 +23,10 @@ impl Arrangement for Straight {
     }
 
     fn place(self, n: usize, i: usize) -> Option<usize> {
-        if i < n { Some(i) } else { None }
+        (i < n).then_some(i)
     }
 
     fn way_back(self, n: usize, p: usize) -> Option<usize> {
-        if p < n { Some(p) } else { None }
+        (p < n).then_some(p)
     }
 }

@@ -19,7 +19,7 @@ impl Arrangement for Turned {
     ghost returning = { λ a n i fits below. turned_back 16 n i (turned_rows n fits) below };
 
     fn fits(self, n: usize) -> bool {
-        16 <= n && n <= 65_536 && n.is_power_of_two()
+        (16..=65_536).contains(&n) && n.is_power_of_two()
     }
 
     fn place(self, n: usize, i: usize) -> Option<usize> {

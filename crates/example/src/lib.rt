@@ -25,7 +25,6 @@ pub fn announce<I: ItemKind, S: Store<Item = I>>(
     rank: i64,
 ) -> Result<(), S::Fault>
     ensures done { Done S.Fault.Refusal.reason (no_cell S.Fault.Refusal.layer (S.Store.model store.old) i) tt S.Store.model (with_rank I.ItemKind.blank (with_item I.ItemKind.blank (S.Store.model store.old) i item) i rank) store.old store.new result }
-    ensures image { S.Store.imaged store.old → S.Store.imaged store.new }
     ensures lender { S.Store.lender store.new ≡ S.Store.lender store.old }
 {
     store.put_item(i, item)?;
@@ -36,7 +35,6 @@ pub fn announce<I: ItemKind, S: Store<Item = I>>(
 fn fill<S: Store<Item = Reading>>(store: &mut S) -> Result<(), S::Fault>
     ensures filled { S.Store.model store.old ≡ cleared zero_reading 30 0 → (is_ok result ≡ true) × (S.Store.model store.new ≡ example_contents) }
     ensures none { size (S.Store.model store.old) ≡ 0 → (store.new ≡ store.old) × NoCell S.Fault.Refusal.reason S.Fault.Refusal.layer 3 result }
-    ensures image { S.Store.imaged store.old → S.Store.imaged store.new }
     ensures lender { S.Store.lender store.new ≡ S.Store.lender store.old }
 {
     let first = Reading {

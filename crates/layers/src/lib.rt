@@ -13,7 +13,6 @@ use stores::{Refusal, Store};
 // Puts an item into cell i of any store, and reads it back.
 pub fn put_then_read<S: Store>(store: &mut S, i: usize, item: S::Item) -> Result<S::Item, S::Fault>
     ensures done { Done S.Fault.Refusal.reason (no_cell S.Fault.Refusal.layer (S.Store.model store.old) i) item S.Store.model (with_item S.Item.ItemKind.blank (S.Store.model store.old) i item) store.old store.new result }
-    ensures image { S.Store.imaged store.old → S.Store.imaged store.new }
     ensures lender { S.Store.lender store.new ≡ S.Store.lender store.old }
 {
     store.put_item(i, item)?;

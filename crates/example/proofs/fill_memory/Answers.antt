@@ -17,7 +17,7 @@ returns c =
           let done = c.fill.ensures.filled made in
           let bytes : c.fill.new.store.mem.now ≡ example_bytes =
           imaged_bytes reading_of c.fill.new.store.n c.fill.new.store.mem.now reading_word example_contents (lit< tt)
-          (c.fill.ensures.image c.new-store.ensures.image) done.1 in
+          c.fill.new.store.image done.1 in
           (done.0, search rules);
       unfit = λ d ne.
           let off : fit (length c.args.mem.now) c.args.n ≡ false =
