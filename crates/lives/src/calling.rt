@@ -65,7 +65,6 @@ fn receiver_step<I: ItemKind, S: Store<Item = I>>(
 ) -> Turn<I, QueueFault<S::Fault>>
     ensures made { (ws : List (Worker I)) (l : LogRecord I) → Makes I.ItemKind.blank (queue_of (S.Store.model store.old) (receiver_view receiver.old) ws l full) StepCall (queue_of (S.Store.model store.new) (receiver_view receiver.new) ws l (permit_of result.held)) (told (queue_reason S.Fault.Refusal.reason) result.answer) }
     ensures fault { MatchResult result.answer Accepted (FaultOf {X = I} S.Fault.Refusal.reason S.Fault.Refusal.layer StepCall) }
-    ensures image { S.Store.imaged store.old → S.Store.imaged store.new }
     ensures lender { S.Store.lender store.new ≡ S.Store.lender store.old }
 {
     match receiver.step(store, permit) {
@@ -104,7 +103,6 @@ fn close<I: ItemKind, S: Store<Item = I>>(
 ) -> Turn<I, QueueFault<S::Fault>>
     ensures made { (ws : List (Worker I)) (l : LogRecord I) → Makes I.ItemKind.blank (queue_of (S.Store.model store.old) (receiver_view receiver.now) ws l free) Close (queue_of (S.Store.model store.new) (receiver_view receiver.now) ws l (permit_of result.held)) (told (queue_reason S.Fault.Refusal.reason) result.answer) }
     ensures fault { MatchResult result.answer Accepted (FaultOf {X = I} S.Fault.Refusal.reason S.Fault.Refusal.layer Close) }
-    ensures image { S.Store.imaged store.old → S.Store.imaged store.new }
     ensures lender { S.Store.lender store.new ≡ S.Store.lender store.old }
 {
     match receiver.close(store, permit) {
@@ -127,7 +125,6 @@ fn work<I: ItemKind, S: Store<Item = I>>(
 ) -> Result<Answer<I>, QueueFault<S::Fault>>
     ensures made { (rv : ReceiverRecord I) (p : Permit) → Makes I.ItemKind.blank (queue_of (S.Store.model store.old) rv workers.old (log_view log.old) p) (WorkerStep k) (queue_of (S.Store.model store.new) rv workers.new (log_view log.new) p) (told (queue_reason S.Fault.Refusal.reason) result) }
     ensures fault { MatchResult result Accepted (FaultOf {X = I} S.Fault.Refusal.reason S.Fault.Refusal.layer (WorkerStep k)) }
-    ensures image { S.Store.imaged store.old → S.Store.imaged store.new }
     ensures lender { S.Store.lender store.new ≡ S.Store.lender store.old }
     ensures lent { log_lender log.new ≡ log_lender log.old }
 {
@@ -158,7 +155,6 @@ fn by_kind<I: ItemKind, S: Store<Item = I>>(
 ) -> Turn<I, QueueFault<S::Fault>>
     ensures made { Makes I.ItemKind.blank (queue_of (S.Store.model store.old) (receiver_view receiver.old) workers.old (log_view log.old) (permit_of held)) call (queue_of (S.Store.model store.new) (receiver_view receiver.new) workers.new (log_view log.new) (permit_of result.held)) (told (queue_reason S.Fault.Refusal.reason) result.answer) }
     ensures fault { MatchResult result.answer Accepted (FaultOf S.Fault.Refusal.reason S.Fault.Refusal.layer call) }
-    ensures image { S.Store.imaged store.old → S.Store.imaged store.new }
     ensures lender { S.Store.lender store.new ≡ S.Store.lender store.old }
     ensures lent { log_lender log.new ≡ log_lender log.old }
 {
@@ -197,7 +193,6 @@ pub fn make<I: ItemKind, S: Store<Item = I>>(
 ) -> Turn<I, QueueFault<S::Fault>>
     ensures made { Makes I.ItemKind.blank (queue_of (S.Store.model store.old) (receiver_view receiver.old) workers.old (log_view log.old) (permit_of held)) call (queue_of (S.Store.model store.new) (receiver_view receiver.new) workers.new (log_view log.new) (permit_of result.held)) (told (queue_reason S.Fault.Refusal.reason) result.answer) }
     ensures fault { MatchResult result.answer Accepted (FaultOf S.Fault.Refusal.reason S.Fault.Refusal.layer call) }
-    ensures image { S.Store.imaged store.old → S.Store.imaged store.new }
     ensures lender { S.Store.lender store.new ≡ S.Store.lender store.old }
     ensures lent { log_lender log.new ≡ log_lender log.old }
 {

@@ -44,7 +44,6 @@ fn turn<I: ItemKind, S: Store<Item = I>>(
 ) -> Held
     ensures made { Makes I.ItemKind.blank (queue_of (S.Store.model store.old) (receiver_view receiver.old) workers.old (log_view log.old) (permit_of held)) call (queue_of (S.Store.model store.new) (receiver_view receiver.new) workers.new (log_view log.new) (permit_of result)) (make I.ItemKind.blank (queue_of (S.Store.model store.old) (receiver_view receiver.old) workers.old (log_view log.old) (permit_of held)) call).answer }
     ensures answer { answers.new ≡ slice_set answers.old i (make I.ItemKind.blank (queue_of (S.Store.model store.old) (receiver_view receiver.old) workers.old (log_view log.old) (permit_of held)) call).answer }
-    ensures image { S.Store.imaged store.old → S.Store.imaged store.new }
     ensures lender { S.Store.lender store.new ≡ S.Store.lender store.old }
     ensures lent { log.new.entries.ghost_name ≡ log.old.entries.ghost_name }
 {
@@ -64,7 +63,6 @@ fn follow<I: ItemKind, S: Store<Item = I>>(
     answers: &mut [Answer<I>],
 ) -> Held
     ensures lived { Lived I.ItemKind.blank (queue_of (S.Store.model store.old) (receiver_view receiver.old) workers.old (log_view log.old) (permit_of held)) calls.now (queue_of (S.Store.model store.new) (receiver_view receiver.new) workers.new (log_view log.new) (permit_of result)) answers.old answers.new }
-    ensures image { S.Store.imaged store.old → S.Store.imaged store.new }
     ensures lender { S.Store.lender store.new ≡ S.Store.lender store.old }
     ensures lent { log.new.entries.ghost_name ≡ log.old.entries.ghost_name }
 {
@@ -86,7 +84,6 @@ fn live<I: ItemKind, S: Store<Item = I>>(
     answers: &mut [Answer<I>],
 ) -> Result<Held, QueueFault<S::Fault>>
     ensures replayed { Replayed I.ItemKind.blank (queue_reason S.Fault.Refusal.reason) S.Store.model start calls.now store.old (receiver_view receiver.old) workers.old (log_view log.old) answers.old store.new (receiver_view receiver.new) workers.new (log_view log.new) answers.new result }
-    ensures image { S.Store.imaged store.old → S.Store.imaged store.new }
     ensures lender { S.Store.lender store.new ≡ S.Store.lender store.old }
     ensures lent { log.new.entries.ghost_name ≡ log.old.entries.ghost_name }
 {
@@ -117,7 +114,6 @@ pub fn replay<I: ItemKind, S: Store<Item = I>>(
     answers: &mut [Answer<I>],
 ) -> Result<Held, QueueFault<S::Fault>>
     ensures replayed { Replayed I.ItemKind.blank (queue_reason S.Fault.Refusal.reason) S.Store.model start calls.now store.old (receiver_view receiver.old) workers.old (log_view log.old) answers.old store.new (receiver_view receiver.new) workers.new (log_view log.new) answers.new result }
-    ensures image { S.Store.imaged store.old → S.Store.imaged store.new }
     ensures lender { S.Store.lender store.new ≡ S.Store.lender store.old }
     ensures lent { log.new.entries.ghost_name ≡ log.old.entries.ghost_name }
 {

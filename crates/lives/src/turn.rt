@@ -71,7 +71,6 @@ fn receiver_step<I: ItemKind, S: Store<Item = I>>(
     permit: FullPermit,
 ) -> Turn<I>
     ensures made { (ws : List (Worker I)) (l : LogRecord I) → Makes I.ItemKind.blank (queue_of (S.Store.model store.old) (receiver_view receiver.old) ws l full) StepCall (queue_of (S.Store.model store.new) (receiver_view receiver.new) ws l (permit_of result.held)) result.answer }
-    ensures image { S.Store.imaged store.old → S.Store.imaged store.new }
     ensures lender { S.Store.lender store.new ≡ S.Store.lender store.old }
 {
     match receiver.step(store, permit) {
@@ -106,7 +105,6 @@ fn close<I: ItemKind, S: Store<Item = I>>(
     permit: FreePermit,
 ) -> Turn<I>
     ensures made { (ws : List (Worker I)) (l : LogRecord I) → Makes I.ItemKind.blank (queue_of (S.Store.model store.old) (receiver_view receiver.now) ws l free) Close (queue_of (S.Store.model store.new) (receiver_view receiver.now) ws l (permit_of result.held)) result.answer }
-    ensures image { S.Store.imaged store.old → S.Store.imaged store.new }
     ensures lender { S.Store.lender store.new ≡ S.Store.lender store.old }
 {
     match receiver.close(store, permit) {
@@ -125,7 +123,6 @@ fn work<I: ItemKind, S: Store<Item = I>>(
     k: usize,
 ) -> Answer<I>
     ensures made { (rv : ReceiverRecord I) (p : Permit) → Makes I.ItemKind.blank (queue_of (S.Store.model store.old) rv workers.old (log_view log.old) p) (WorkerStep k) (queue_of (S.Store.model store.new) rv workers.new (log_view log.new) p) result }
-    ensures image { S.Store.imaged store.old → S.Store.imaged store.new }
     ensures lender { S.Store.lender store.new ≡ S.Store.lender store.old }
     ensures lent { log.new.entries.ghost_name ≡ log.old.entries.ghost_name }
 {
@@ -159,7 +156,6 @@ pub(crate) fn make<I: ItemKind, S: Store<Item = I>>(
     call: Call<I>,
 ) -> Turn<I>
     ensures made { Makes I.ItemKind.blank (queue_of (S.Store.model store.old) (receiver_view receiver.old) workers.old (log_view log.old) (permit_of held)) call (queue_of (S.Store.model store.new) (receiver_view receiver.new) workers.new (log_view log.new) (permit_of result.held)) result.answer }
-    ensures image { S.Store.imaged store.old → S.Store.imaged store.new }
     ensures lender { S.Store.lender store.new ≡ S.Store.lender store.old }
     ensures lent { log.new.entries.ghost_name ≡ log.old.entries.ghost_name }
 {

@@ -46,7 +46,6 @@ pub(crate) fn gap_in<I: ItemKind, S: Store<Item = I>>(store: &S, rank: u64) -> i
 pub(crate) fn put_item<I: ItemKind, S: Store<Item = I>>(store: &mut S, rank: u64, item: I)
     requires { 0 < size (S.Store.model store.old) }
     ensures model { S.Store.model store.new ≡ with_item I.ItemKind.blank (S.Store.model store.old) (rank % size (S.Store.model store.old)) item }
-    ensures image { S.Store.imaged store.old → S.Store.imaged store.new }
     ensures lender { S.Store.lender store.new ≡ S.Store.lender store.old }
 {
     let cell = cell_of(rank, store.cells());
@@ -59,7 +58,6 @@ pub(crate) fn put_item<I: ItemKind, S: Store<Item = I>>(store: &mut S, rank: u64
 pub(crate) fn put_rank<I: ItemKind, S: Store<Item = I>>(store: &mut S, rank: u64, value: i64)
     requires { 0 < size (S.Store.model store.old) }
     ensures model { S.Store.model store.new ≡ with_rank I.ItemKind.blank (S.Store.model store.old) (rank % size (S.Store.model store.old)) value }
-    ensures image { S.Store.imaged store.old → S.Store.imaged store.new }
     ensures lender { S.Store.lender store.new ≡ S.Store.lender store.old }
 {
     let cell = cell_of(rank, store.cells());
@@ -72,7 +70,6 @@ pub(crate) fn put_rank<I: ItemKind, S: Store<Item = I>>(store: &mut S, rank: u64
 pub(crate) fn put_gap<I: ItemKind, S: Store<Item = I>>(store: &mut S, rank: u64, value: i64)
     requires { 0 < size (S.Store.model store.old) }
     ensures model { S.Store.model store.new ≡ with_gap I.ItemKind.blank (S.Store.model store.old) (rank % size (S.Store.model store.old)) value }
-    ensures image { S.Store.imaged store.old → S.Store.imaged store.new }
     ensures lender { S.Store.lender store.new ≡ S.Store.lender store.old }
 {
     let cell = cell_of(rank, store.cells());

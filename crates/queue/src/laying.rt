@@ -33,7 +33,6 @@ pub fn lay_out<I: ItemKind, S: Store<Item = I>>(
     ensures model { S.Store.model store.new ≡ unless (no_lay_out (S.Store.model store.old) workers.old start) (cleared I.ItemKind.blank (size (S.Store.model store.old)) start) (S.Store.model store.old) }
     ensures log { log_view log.new ≡ unless (no_lay_out (S.Store.model store.old) workers.old start) (emptied_log (log_view log.old)) (log_view log.old) }
     ensures refused { OnErr result ((store.new ≡ store.old) × (receiver.new ≡ receiver.old) × (workers.new ≡ workers.old) × (log.new ≡ log.old)) }
-    ensures image { S.Store.imaged store.old → S.Store.imaged store.new }
     ensures lender { S.Store.lender store.new ≡ S.Store.lender store.old }
     ensures lent { log_lender log.new ≡ log_lender log.old }
 {

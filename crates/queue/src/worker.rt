@@ -30,7 +30,6 @@ pub fn worker_step<I: ItemKind, S: Store<Item = I>>(
     ensures model { S.Store.model store.new ≡ (worker_step I.ItemKind.blank k workers.old (S.Store.model store.old) (log_view log.old)).store }
     ensures log { log_view log.new ≡ (worker_step I.ItemKind.blank k workers.old (S.Store.model store.old) (log_view log.old)).log }
     ensures refused { OnErr result ((store.new ≡ store.old) × (workers.new ≡ workers.old) × (log.new ≡ log.old)) }
-    ensures image { S.Store.imaged store.old → S.Store.imaged store.new }
     ensures lender { S.Store.lender store.new ≡ S.Store.lender store.old }
     ensures lent { log_lender log.new ≡ log_lender log.old }
 {
@@ -80,7 +79,6 @@ fn one_step<I: ItemKind, S: Store<Item = I>>(
     ensures model { S.Store.model store.new ≡ (one_step I.ItemKind.blank k w (S.Store.model store.old) (log_view log.old)).store }
     ensures log { log_view log.new ≡ (one_step I.ItemKind.blank k w (S.Store.model store.old) (log_view log.old)).log }
     ensures refused { OnErr result ((store.new ≡ store.old) × (log.new ≡ log.old)) }
-    ensures image { S.Store.imaged store.old → S.Store.imaged store.new }
     ensures lender { S.Store.lender store.new ≡ S.Store.lender store.old }
     ensures lent { log_lender log.new ≡ log_lender log.old }
 {

@@ -52,7 +52,6 @@ fn step_each<I: ItemKind, S: Store<Item = I>>(
 ) -> Result<Drained, DrainStop<RunFault<QueueFault<S::Fault>>>>
     ensures drained { DrainedAs (queue_reason S.Fault.Refusal.reason) (drain_from I.ItemKind.blank budget 0 0 workers.old (S.Store.model store.old) (log_view log.old)) result workers.new (S.Store.model store.new) (log_view log.new) }
     ensures fault { IfErr result (λ e. StepFault S.Fault.Refusal.reason S.Fault.Refusal.layer e.fault) }
-    ensures image { S.Store.imaged store.old → S.Store.imaged store.new }
     ensures lender { S.Store.lender store.new ≡ S.Store.lender store.old }
     ensures lent { log_lender log.new ≡ log_lender log.old }
 {
@@ -110,7 +109,6 @@ fn checked<I: ItemKind, S: Store<Item = I>>(
     ensures drained { DrainedAs (queue_reason S.Fault.Refusal.reason) (drained I.ItemKind.blank budget workers.old (S.Store.model store.old) (log_view log.old)) result workers.new (S.Store.model store.new) (log_view log.new) }
     ensures fault { IfErr result (λ e. DrainFault S.Fault.Refusal.reason S.Fault.Refusal.layer e.fault) }
     ensures refused { IfErr result (λ e. OfChecks e.fault → (store.new ≡ store.old) × (workers.new ≡ workers.old) × (log.new ≡ log.old)) }
-    ensures image { S.Store.imaged store.old → S.Store.imaged store.new }
     ensures lender { S.Store.lender store.new ≡ S.Store.lender store.old }
     ensures lent { log_lender log.new ≡ log_lender log.old }
 {
@@ -130,7 +128,6 @@ fn bounded<I: ItemKind, S: Store<Item = I>>(
     ensures fault { IfErr result (λ e. DrainFault S.Fault.Refusal.reason S.Fault.Refusal.layer e.fault) }
     ensures refused { IfErr result (λ e. OfChecks e.fault → (store.new ≡ store.old) × (workers.new ≡ workers.old) × (log.new ≡ log.old)) }
     ensures in_time { DrainedInTime I.ItemKind.blank budget workers.old (S.Store.model store.old) (log_view log.old) (steps_of result) (outcome_of (queue_reason S.Fault.Refusal.reason) result) }
-    ensures image { S.Store.imaged store.old → S.Store.imaged store.new }
     ensures lender { S.Store.lender store.new ≡ S.Store.lender store.old }
     ensures lent { log_lender log.new ≡ log_lender log.old }
 {
@@ -148,7 +145,6 @@ pub fn drain<I: ItemKind, S: Store<Item = I>>(
     ensures fault { IfErr result (λ e. DrainFault S.Fault.Refusal.reason S.Fault.Refusal.layer e.fault) }
     ensures refused { IfErr result (λ e. OfChecks e.fault → (store.new ≡ store.old) × (workers.new ≡ workers.old) × (log.new ≡ log.old)) }
     ensures in_time { DrainedInTime I.ItemKind.blank budget workers.old (S.Store.model store.old) (log_view log.old) (steps_of result) (outcome_of (queue_reason S.Fault.Refusal.reason) result) }
-    ensures image { S.Store.imaged store.old → S.Store.imaged store.new }
     ensures lender { S.Store.lender store.new ≡ S.Store.lender store.old }
     ensures lent { log_lender log.new ≡ log_lender log.old }
 {

@@ -100,7 +100,6 @@ fn take_turn<'a, I: ItemKind, S: Store<Item = I>>(
     ensures hand { HandFits (permit_of result.held) (receiver_view receiver.new).hand }
     ensures size { size (S.Store.model store.new) ≡ size (S.Store.model store.old) }
     ensures fault { IfSome result.fault (TurnFault S.Fault.Refusal.reason S.Fault.Refusal.layer) }
-    ensures image { S.Store.imaged store.old → S.Store.imaged store.new }
     ensures lender { S.Store.lender store.new ≡ S.Store.lender store.old }
     ensures lent { log_lender log.new ≡ log_lender log.old }
 {
@@ -146,7 +145,6 @@ fn take_turns<I: ItemKind, S: Store<Item = I>>(
     ensures hand { HandFits (permit_of result.held) (receiver_view receiver.new).hand }
     ensures size { size (S.Store.model store.new) ≡ size (S.Store.model store.old) }
     ensures fault { IfSome result.stop (λ s. TurnFault S.Fault.Refusal.reason S.Fault.Refusal.layer s.fault) }
-    ensures image { S.Store.imaged store.old → S.Store.imaged store.new }
     ensures lender { S.Store.lender store.new ≡ S.Store.lender store.old }
     ensures lent { log_lender log.new ≡ log_lender log.old }
 {
@@ -180,7 +178,6 @@ fn close<I: ItemKind, S: Store<Item = I>>(
     requires hand { (receiver_view receiver.now).hand ≡ None }
     ensures end { result ≡ closed_at (receiver_view receiver.now) (S.Store.model store.old) }
     ensures model { S.Store.model store.new ≡ with_end (S.Store.model store.old) (closed_at (receiver_view receiver.now) (S.Store.model store.old)) }
-    ensures image { S.Store.imaged store.old → S.Store.imaged store.new }
     ensures lender { S.Store.lender store.new ≡ S.Store.lender store.old }
 {
     match receiver.close(store, permit) {
@@ -199,7 +196,6 @@ fn finish<I: ItemKind, S: Store<Item = I>>(
     requires hand { HandFits (permit_of held) (receiver_view receiver.old).hand }
     ensures end { result ≡ closed_at (receiver_view receiver.old) (S.Store.model store.old) }
     ensures model { S.Store.model store.new ≡ with_end (S.Store.model store.old) (closed_at (receiver_view receiver.old) (S.Store.model store.old)) }
-    ensures image { S.Store.imaged store.old → S.Store.imaged store.new }
     ensures lender { S.Store.lender store.new ≡ S.Store.lender store.old }
 {
     match held {
@@ -226,7 +222,6 @@ fn perform<I: ItemKind, S: Store<Item = I>>(
     requires hand { (receiver_view receiver.old).hand ≡ None }
     ensures rehearsed { RehearsedAs (queue_reason S.Fault.Refusal.reason) (rehearsed I.ItemKind.blank (queue_of (S.Store.model store.old) (receiver_view receiver.old) workers.old (log_view log.old) free) items.now turns.now) result (S.Store.model store.new) workers.new (log_view log.new) }
     ensures fault { IfSome result.stop (λ s. TurnFault S.Fault.Refusal.reason S.Fault.Refusal.layer s.fault) }
-    ensures image { S.Store.imaged store.old → S.Store.imaged store.new }
     ensures lender { S.Store.lender store.new ≡ S.Store.lender store.old }
     ensures lent { log_lender log.new ≡ log_lender log.old }
 {
@@ -253,7 +248,6 @@ fn laid_out<I: ItemKind, S: Store<Item = I>>(
 ) -> Result<Rehearsed<RunFault<QueueFault<S::Fault>>>, RunFault<QueueFault<S::Fault>>>
     ensures rehearses { Rehearses I.ItemKind.blank (queue_reason S.Fault.Refusal.reason) S.Store.model start items.now turns.now store.old workers.old (log_view log.old) store.new workers.new (log_view log.new) result }
     ensures fault { MatchResult result (λ d. IfSome d.stop (λ s. TurnFault S.Fault.Refusal.reason S.Fault.Refusal.layer s.fault)) LayOutFault }
-    ensures image { S.Store.imaged store.old → S.Store.imaged store.new }
     ensures lender { S.Store.lender store.new ≡ S.Store.lender store.old }
     ensures lent { log_lender log.new ≡ log_lender log.old }
 {
@@ -277,7 +271,6 @@ pub fn rehearse<I: ItemKind, S: Store<Item = I>>(
 ) -> Result<Rehearsed<RunFault<QueueFault<S::Fault>>>, RunFault<QueueFault<S::Fault>>>
     ensures rehearses { Rehearses I.ItemKind.blank (queue_reason S.Fault.Refusal.reason) S.Store.model start items.now turns.now store.old workers.old (log_view log.old) store.new workers.new (log_view log.new) result }
     ensures fault { MatchResult result (λ d. IfSome d.stop (λ s. TurnFault S.Fault.Refusal.reason S.Fault.Refusal.layer s.fault)) LayOutFault }
-    ensures image { S.Store.imaged store.old → S.Store.imaged store.new }
     ensures lender { S.Store.lender store.new ≡ S.Store.lender store.old }
     ensures lent { log_lender log.new ≡ log_lender log.old }
 {

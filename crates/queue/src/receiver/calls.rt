@@ -91,7 +91,6 @@ impl<I: ItemKind> Receiver<I> {
         ensures receiver { self.exit.now ≡ self.entry.now }
         ensures model { S.Store.model store.new ≡ unless (no_close (receiver_view self.now) (S.Store.model store.old)) (with_end (S.Store.model store.old) (closed_at (receiver_view self.now) (S.Store.model store.old))) (S.Store.model store.old) }
         ensures refused { OnErr result (store.new ≡ store.old) }
-        ensures image { S.Store.imaged store.old → S.Store.imaged store.new }
         ensures lender { S.Store.lender store.new ≡ S.Store.lender store.old }
     {
         if store.cells() == 0 {

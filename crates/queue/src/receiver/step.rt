@@ -29,7 +29,6 @@ impl<I: ItemKind> Receiver<I> {
         ensures receiver { receiver_view self.new ≡ (receiver_step I.ItemKind.blank (receiver_view self.old) (S.Store.model store.old)).receiver }
         ensures model { S.Store.model store.new ≡ (receiver_step I.ItemKind.blank (receiver_view self.old) (S.Store.model store.old)).store }
         ensures refused { OnErr result ((store.new ≡ store.old) × (self.new ≡ self.old)) }
-        ensures image { S.Store.imaged store.old → S.Store.imaged store.new }
         ensures lender { S.Store.lender store.new ≡ S.Store.lender store.old }
     {
         if store.cells() == 0 {
@@ -59,7 +58,6 @@ impl<I: ItemKind> Receiver<I> {
         ensures receiver { receiver_view self.new ≡ (step_in I.ItemKind.blank (receiver_view self.old) (S.Store.model store.old) (receiver_view self.old).phase item).receiver }
         ensures model { S.Store.model store.new ≡ (step_in I.ItemKind.blank (receiver_view self.old) (S.Store.model store.old) (receiver_view self.old).phase item).store }
         ensures refused { OnErr result ((store.new ≡ store.old) × (self.new ≡ self.old)) }
-        ensures image { S.Store.imaged store.old → S.Store.imaged store.new }
         ensures lender { S.Store.lender store.new ≡ S.Store.lender store.old }
     {
         match self.phase {
@@ -106,7 +104,6 @@ impl<I: ItemKind> Receiver<I> {
         ensures answer { Ok (step_said result) ≡ (step_in I.ItemKind.blank (receiver_view self.old) (S.Store.model store.old) Busy I.ItemKind.blank).answer }
         ensures receiver { receiver_view self.new ≡ (step_in I.ItemKind.blank (receiver_view self.old) (S.Store.model store.old) Busy I.ItemKind.blank).receiver }
         ensures model { S.Store.model store.new ≡ (step_in I.ItemKind.blank (receiver_view self.old) (S.Store.model store.old) Busy I.ItemKind.blank).store }
-        ensures image { S.Store.imaged store.old → S.Store.imaged store.new }
         ensures lender { S.Store.lender store.new ≡ S.Store.lender store.old }
     {
         let tail = self.tail;
@@ -128,7 +125,6 @@ impl<I: ItemKind> Receiver<I> {
         ensures answer { Ok (step_said result) ≡ (step_in I.ItemKind.blank (receiver_view self.old) (S.Store.model store.old) Found item).answer }
         ensures receiver { receiver_view self.new ≡ (step_in I.ItemKind.blank (receiver_view self.old) (S.Store.model store.old) Found item).receiver }
         ensures model { S.Store.model store.new ≡ (step_in I.ItemKind.blank (receiver_view self.old) (S.Store.model store.old) Found item).store }
-        ensures image { S.Store.imaged store.old → S.Store.imaged store.new }
         ensures lender { S.Store.lender store.new ≡ S.Store.lender store.old }
     {
         let tail = self.tail;
@@ -144,7 +140,6 @@ impl<I: ItemKind> Receiver<I> {
         ensures answer { Ok (step_said result) ≡ (step_in I.ItemKind.blank (receiver_view self.old) (S.Store.model store.old) Filled I.ItemKind.blank).answer }
         ensures receiver { receiver_view self.new ≡ (step_in I.ItemKind.blank (receiver_view self.old) (S.Store.model store.old) Filled I.ItemKind.blank).receiver }
         ensures model { S.Store.model store.new ≡ (step_in I.ItemKind.blank (receiver_view self.old) (S.Store.model store.old) Filled I.ItemKind.blank).store }
-        ensures image { S.Store.imaged store.old → S.Store.imaged store.new }
         ensures lender { S.Store.lender store.new ≡ S.Store.lender store.old }
     {
         let tail = self.tail;

@@ -48,7 +48,6 @@ fn next_rank<S: Store>(store: &mut S) -> Result<u64, QueueFault<S::Fault>>
     ensures answer { MatchResult result (λ v. (v ≡ (S.Store.model store.old).head) × (v < limit)) (λ f. (limit ≤ (S.Store.model store.old).head) × (queue_reason S.Fault.Refusal.reason f ≡ refusal 6 0)) }
     ensures carries { IfErr result (Carries S.Fault.Refusal.reason S.Fault.Refusal.layer) }
     ensures model { MatchResult result (λ v. S.Store.model store.new ≡ with_head (S.Store.model store.old) (v + 1)) (λ _. store.new ≡ store.old) }
-    ensures image { S.Store.imaged store.old → S.Store.imaged store.new }
     ensures lender { S.Store.lender store.new ≡ S.Store.lender store.old }
 {
     match store.next_rank() {
@@ -67,7 +66,6 @@ fn claim<I: ItemKind, S: Store<Item = I>>(
     ensures carries { IfErr result (Carries S.Fault.Refusal.reason S.Fault.Refusal.layer) }
     ensures model { (k : ℕ) (l : LogRecord I) → S.Store.model store.new ≡ (work_in I.ItemKind.blank k w (S.Store.model store.old) l Idle).store }
     ensures refused { OnErr result (store.new ≡ store.old) }
-    ensures image { S.Store.imaged store.old → S.Store.imaged store.new }
     ensures lender { S.Store.lender store.new ≡ S.Store.lender store.old }
 {
     let mark = store.end_mark();
@@ -130,7 +128,6 @@ fn move_on<I: ItemKind, S: Store<Item = I>>(
     ensures carries { IfErr result (Carries S.Fault.Refusal.reason S.Fault.Refusal.layer) }
     ensures model { (k : ℕ) (l : LogRecord I) → S.Store.model store.new ≡ (work_in I.ItemKind.blank k w (S.Store.model store.old) l Passed).store }
     ensures refused { OnErr result (store.new ≡ store.old) }
-    ensures image { S.Store.imaged store.old → S.Store.imaged store.new }
     ensures lender { S.Store.lender store.new ≡ S.Store.lender store.old }
 {
     let mark = store.end_mark();
@@ -167,7 +164,6 @@ fn deliver<I: ItemKind, S: Store<Item = I>>(
     ensures model { S.Store.model store.new ≡ (work_in I.ItemKind.blank k w (S.Store.model store.old) (log_view log.old) Copied).store }
     ensures log { log_view log.new ≡ (work_in I.ItemKind.blank k w (S.Store.model store.old) (log_view log.old) Copied).log }
     ensures refused { OnErr result ((store.new ≡ store.old) × (log.new ≡ log.old)) }
-    ensures image { S.Store.imaged store.old → S.Store.imaged store.new }
     ensures lender { S.Store.lender store.new ≡ S.Store.lender store.old }
     ensures lent { log_lender log.new ≡ log_lender log.old }
 {
@@ -199,7 +195,6 @@ pub(crate) fn step_in_phase<I: ItemKind, S: Store<Item = I>>(
     ensures model { S.Store.model store.new ≡ (work_in I.ItemKind.blank k w (S.Store.model store.old) (log_view log.old) w.phase).store }
     ensures log { log_view log.new ≡ (work_in I.ItemKind.blank k w (S.Store.model store.old) (log_view log.old) w.phase).log }
     ensures refused { OnErr result ((store.new ≡ store.old) × (log.new ≡ log.old)) }
-    ensures image { S.Store.imaged store.old → S.Store.imaged store.new }
     ensures lender { S.Store.lender store.new ≡ S.Store.lender store.old }
     ensures lent { log_lender log.new ≡ log_lender log.old }
 {

@@ -17,7 +17,6 @@ returns-in-WorkerStep g c =
           (log_view c.args.log.now) (permit_of c.args.held) c.args.call (WorkerStep c.in-WorkerStep.k) _ (told (queue_reason g.S.Fault.Refusal.reason) c.work-answer.result)
           c.in-WorkerStep.is (c.work-answer.ensures.made (receiver_view c.args.receiver.now) (permit_of c.args.held));
       fault = at_fault g.S.Fault.Refusal.reason g.S.Fault.Refusal.layer c.args.call (WorkerStep c.in-WorkerStep.k) c.work-answer.result c.in-WorkerStep.is c.work-answer.ensures.fault;
-      image = c.work-answer.ensures.image;
       lender = c.work-answer.ensures.lender;
       lent = c.work-answer.ensures.lent;
     }
@@ -30,7 +29,6 @@ returns-in-Free g c =
           (log_view c.args.log.now) (permit_of c.args.held) free c.args.call (Submit c.in-Submit.item) _ (told (queue_reason g.S.Fault.Refusal.reason) c.submit.result.answer)
           (ap permit_of c.in-Free.is) c.in-Submit.is (c.submit.ensures.made c.args.workers.now (log_view c.args.log.now));
       fault = at_fault g.S.Fault.Refusal.reason g.S.Fault.Refusal.layer c.args.call (Submit c.in-Submit.item) c.submit.result.answer c.in-Submit.is c.submit.ensures.fault;
-      image = λ i. i;
       lender = refl;
       lent = refl;
     }
@@ -43,7 +41,6 @@ returns-in-Free-held g c =
           (log_view c.args.log.now) (permit_of c.args.held) free c.args.call Close _ (told (queue_reason g.S.Fault.Refusal.reason) c.close.result.answer)
           (ap permit_of c.in-Free-held.is) c.in-Close.is (c.close.ensures.made c.args.workers.now (log_view c.args.log.now));
       fault = at_fault g.S.Fault.Refusal.reason g.S.Fault.Refusal.layer c.args.call Close c.close.result.answer c.in-Close.is c.close.ensures.fault;
-      image = c.close.ensures.image;
       lender = c.close.ensures.lender;
       lent = refl;
     }
@@ -56,7 +53,6 @@ returns-in-Full g c =
           (log_view c.args.log.now) (permit_of c.args.held) full c.args.call ReceiverStep _ (told (queue_reason g.S.Fault.Refusal.reason) c.receiver_step.result.answer)
           (ap permit_of c.in-Full.is) c.in-ReceiverStep.is (c.receiver_step.ensures.made c.args.workers.now (log_view c.args.log.now));
       fault = at_fault g.S.Fault.Refusal.reason g.S.Fault.Refusal.layer c.args.call ReceiverStep c.receiver_step.result.answer c.in-ReceiverStep.is c.receiver_step.ensures.fault;
-      image = c.receiver_step.ensures.image;
       lender = c.receiver_step.ensures.lender;
       lent = refl;
     }
@@ -70,7 +66,6 @@ returns-in-Full-held g c =
           (ap permit_of c.in-Full-held.is) c.in-Withdraw.is
           (c.withdraw.ensures.made (g.S.Store.model c.args.store.now) c.args.workers.now (log_view c.args.log.now));
       fault = at_fault g.S.Fault.Refusal.reason g.S.Fault.Refusal.layer c.args.call Withdraw c.withdraw.result.answer c.in-Withdraw.is c.withdraw.ensures.accepted;
-      image = λ i. i;
       lender = refl;
       lent = refl;
     }

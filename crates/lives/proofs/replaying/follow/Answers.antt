@@ -11,7 +11,6 @@ loop-i-init g c = (
   lived_none g.I.ItemKind.blank
       (queue_of (g.S.Store.model c.args.store.now) (receiver_view c.args.receiver.now) c.args.workers.now (log_view c.args.log.now) (permit_of c.args.held))
       c.args.answers.now,
-  (λ i. i),
   refl,
   refl,
 )
@@ -27,9 +26,8 @@ loop-i-preserved g c =
           (queue_of (g.S.Store.model c.turn-held.new.store) (receiver_view c.turn-held.new.receiver) c.turn-held.new.workers (log_view c.turn-held.new.log) (permit_of c.turn-held.result))
           c.loop-i.answers c.turn-held.new.answers c.loop-i-test.true (c.call_at-call.ensures c.call_at-call.result) inv.0
           (ap (λ m. m.queue) made.made) made.answer,
-      (λ i. made.image (inv.1 i)),
-      made.lender ∙ inv.2,
-      made.lent ∙ inv.3,
+      made.lender ∙ inv.1,
+      made.lent ∙ inv.2,
     )
 
 pub returns : goal.returns
@@ -41,7 +39,6 @@ returns g c =
           c.args.answers.now c.args.calls.now c.loop-i.i
           (queue_of (g.S.Store.model c.loop-i.store) (receiver_view c.loop-i.receiver) c.loop-i.workers (log_view c.loop-i.log) (permit_of c.loop-i.held))
           c.loop-i.answers c.loop-i-test.false inv.0;
-      image = inv.1;
-      lender = inv.2;
-      lent = inv.3;
+      lender = inv.1;
+      lent = inv.2;
     }

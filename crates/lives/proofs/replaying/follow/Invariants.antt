@@ -13,6 +13,5 @@ invariant-loop-i g l =
     (take l.i l.calls)
     (queue_of (g.S.Store.model l.store) (receiver_view l.receiver) l.workers (log_view l.log) (permit_of l.held))
     l.initial.answers l.answers
-    × (g.S.Store.imaged l.initial.store → g.S.Store.imaged l.store)
     × (g.S.Store.lender l.store ≡ g.S.Store.lender l.initial.store)
     × (l.log.entries.ghost_name ≡ l.initial.log.entries.ghost_name)

@@ -29,7 +29,6 @@ returns-in-Ok g c =
             start c.follow.ensures.lived,
         (λ i. life_promised blank (size m) ws l c.args.start (some_cells blank m ws l c.args.start none) (take i c.args.calls.now)),
       );
-      image = λ i. c.follow.ensures.image (laid.image i);
       lender = c.follow.ensures.lender ∙ laid.lender;
       lent = c.follow.ensures.lent ∙ laid.lent;
     }

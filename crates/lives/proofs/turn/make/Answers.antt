@@ -14,7 +14,6 @@ returns-in-WorkerStep g c =
           at_call g.I.ItemKind.blank (g.S.Store.model c.args.store.now) (receiver_view c.args.receiver.now) c.args.workers.now
           (log_view c.args.log.now) (permit_of c.args.held) c.args.call (WorkerStep c.in-WorkerStep.k) _ c.work-answer.result
           c.in-WorkerStep.is (c.work-answer.ensures.made (receiver_view c.args.receiver.now) (permit_of c.args.held));
-      image = c.work-answer.ensures.image;
       lender = c.work-answer.ensures.lender;
       lent = c.work-answer.ensures.lent;
     }
@@ -26,7 +25,6 @@ returns-in-Free g c =
           at_permit g.I.ItemKind.blank (g.S.Store.model c.args.store.now) (receiver_view c.args.receiver.now) c.args.workers.now
           (log_view c.args.log.now) (permit_of c.args.held) free c.args.call (Submit c.in-Submit.item) _ c.submit.result.answer
           (ap permit_of c.in-Free.is) c.in-Submit.is (c.submit.ensures c.args.workers.now (log_view c.args.log.now));
-      image = λ i. i;
       lender = refl;
       lent = refl;
     }
@@ -38,7 +36,6 @@ returns-in-Free-held g c =
           at_permit g.I.ItemKind.blank (g.S.Store.model c.args.store.now) (receiver_view c.args.receiver.now) c.args.workers.now
           (log_view c.args.log.now) (permit_of c.args.held) free c.args.call Close _ c.close.result.answer
           (ap permit_of c.in-Free-held.is) c.in-Close.is (c.close.ensures.made c.args.workers.now (log_view c.args.log.now));
-      image = c.close.ensures.image;
       lender = c.close.ensures.lender;
       lent = refl;
     }
@@ -50,7 +47,6 @@ returns-in-Full g c =
           at_permit g.I.ItemKind.blank (g.S.Store.model c.args.store.now) (receiver_view c.args.receiver.now) c.args.workers.now
           (log_view c.args.log.now) (permit_of c.args.held) full c.args.call ReceiverStep _ c.receiver_step.result.answer
           (ap permit_of c.in-Full.is) c.in-ReceiverStep.is (c.receiver_step.ensures.made c.args.workers.now (log_view c.args.log.now));
-      image = c.receiver_step.ensures.image;
       lender = c.receiver_step.ensures.lender;
       lent = refl;
     }
@@ -63,7 +59,6 @@ returns-in-Full-held g c =
           (log_view c.args.log.now) (permit_of c.args.held) full c.args.call Withdraw _ c.withdraw.result.answer
           (ap permit_of c.in-Full-held.is) c.in-Withdraw.is
           (c.withdraw.ensures (g.S.Store.model c.args.store.now) c.args.workers.now (log_view c.args.log.now));
-      image = λ i. i;
       lender = refl;
       lent = refl;
     }

@@ -13,7 +13,6 @@ returns g c =
       in_time =
           in_time_too g.I.ItemKind.blank (queue_reason g.S.Fault.Refusal.reason) c.args.budget c.args.workers.now (g.S.Store.model c.args.store.now)
           (log_view c.args.log.now) c.checked.result _ _ _ e.drained;
-      image = e.image;
       lender = e.lender;
       lent = e.lent;
     }

@@ -20,7 +20,6 @@ returns-in-Some g c =
           (sym (said.reason reason)) (as_ended g.I.ItemKind.blank reason _ (Err (record { steps = 0; fault = c.in-Some.fault })) ws m l refl);
       fault = checks_own g.S.Fault.Refusal.reason g.S.Fault.Refusal.layer c.in-Some.fault said.own;
       refused = λ _. (refl, refl, refl);
-      image = λ i. i;
       lender = refl;
       lent = refl;
     }
@@ -39,7 +38,6 @@ returns-in-None g c =
           c.min.ensures done.drained);
       fault = cases_weaker c.step_each.result _ _ (λ e. step_fault g.S.Fault.Refusal.reason g.S.Fault.Refusal.layer e.fault) done.fault;
       refused = cases_weaker c.step_each.result _ _ (λ e o h. absurd (no_check g.S.Fault.Refusal.reason g.S.Fault.Refusal.layer e.fault o h)) done.fault;
-      image = done.image;
       lender = done.lender;
       lent = done.lent;
     }

@@ -16,9 +16,8 @@ returns-then-k-workers g c =
     record {
       drained = as_ended blank (queue_reason g.S.Fault.Refusal.reason) _ (Ok _) ws m l (inv.0 ∙ drain_finished blank c.args.budget c.loop-steps.steps c.loop-steps.k ws m l c.if-k-workers.true);
       fault = tt;
-      image = inv.1;
-      lender = inv.2;
-      lent = inv.3;
+      lender = inv.1;
+      lent = inv.2;
     }
 
 pub returns-in-Err : goal.returns-in-Err
@@ -32,9 +31,8 @@ returns-in-Err g c =
           (queue_reason g.S.Fault.Refusal.reason c.in-Err.fault) c.worker_step.new.workers (g.S.Store.model c.worker_step.new.store) (log_view c.worker_step.new.log)
           c.loop-steps-test.true c.if-k-workers.false (sym step.answer) step.workers step.model step.log);
       fault = step.carries;
-      image = λ i. step.image (inv.1 i);
-      lender = step.lender ∙ inv.2;
-      lent = step.lent ∙ inv.3;
+      lender = step.lender ∙ inv.1;
+      lent = step.lent ∙ inv.2;
     }
 
 pub loop-steps-preserved : goal.loop-steps-preserved
@@ -46,9 +44,8 @@ loop-steps-preserved g c =
           c.in-Ok.answer c.worker_step.new.workers (g.S.Store.model c.worker_step.new.store) (log_view c.worker_step.new.log)
           c.loop-steps-test.true c.if-k-workers.false (sym step.answer) step.workers step.model step.log
           ∙ ap (λ (k : ℕ). drain_from blank (c.args.budget - (c.loop-steps.steps + 1)) (c.loop-steps.steps + 1) k c.worker_step.new.workers (g.S.Store.model c.worker_step.new.store) (log_view c.worker_step.new.log)) (sym c.next_worker-k.ensures),
-      (λ i. step.image (inv.1 i)),
-      step.lender ∙ inv.2,
-      step.lent ∙ inv.3,
+      step.lender ∙ inv.1,
+      step.lent ∙ inv.2,
     )
 
 pub returns : goal.returns
@@ -64,7 +61,6 @@ returns g c =
           (inv.0 ∙ drain_used_up blank c.args.budget c.loop-steps.steps c.loop-steps.k ws m l c.loop-steps-test.false
           ∙ ap (λ (n : ℕ). ends blank n (Ok (leb (length ws) c.loop-steps.k)) ws m l) all);
       fault = tt;
-      image = inv.1;
-      lender = inv.2;
-      lent = inv.3;
+      lender = inv.1;
+      lent = inv.2;
     }

@@ -37,7 +37,6 @@ returns-in-Ok g c =
         rehearsal_life blank m ws l c.args.start none c.args.items.now c.args.turns.now,
       );
       fault = did.fault;
-      image = λ i. did.image (laid.image i);
       lender = did.lender ∙ laid.lender;
       lent = did.lent ∙ laid.lent;
     }

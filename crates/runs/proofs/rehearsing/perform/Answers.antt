@@ -24,7 +24,6 @@ returns g c =
           (g.S.Store.model took.new.store) (receiver_view took.new.receiver) took.new.workers (log_view took.new.log) (permit_of took.result.held) _ _
           did.ended some did.hand (to_z-of_z w64 c.finish-end.result f ∙ done.end) done.model;
       fault = did.fault;
-      image = λ i. done.image (did.image i);
       lender = done.lender ∙ did.lender;
       lent = did.lent;
     }

@@ -26,7 +26,6 @@ returns-in-Ok g c =
       hand = hand_after blank q items c.args.party call new (told reason answer) c.requires is made.made;
       size = size_after blank q items c.args.party call new (told reason answer) c.requires made.made;
       fault = tt;
-      image = made.image;
       lender = made.lender;
       lent = made.lent;
     }
@@ -49,7 +48,6 @@ returns-in-Err g c =
       fault =
           turn_fault g.S.Fault.Refusal.reason g.S.Fault.Refusal.layer call c.in-Err.fault
           (subst (λ o. MatchResult o Accepted (FaultOf g.S.Fault.Refusal.reason g.S.Fault.Refusal.layer call)) c.in-Err.is made.fault);
-      image = made.image;
       lender = made.lender;
       lent = made.lent;
     }

@@ -29,9 +29,8 @@ returns-in-Some g c =
       hand = did.hand;
       size = did.size ∙ inv.2;
       fault = subst (λ o. IfSome o (TurnFault g.S.Fault.Refusal.reason g.S.Fault.Refusal.layer)) c.in-Some.is did.fault;
-      image = λ h. did.image (inv.3 h);
-      lender = did.lender ∙ inv.4;
-      lent = did.lent ∙ inv.5;
+      lender = did.lender ∙ inv.3;
+      lent = did.lent ∙ inv.4;
     }
 
 pub loop-i-preserved : goal.loop-i-preserved
@@ -49,9 +48,8 @@ loop-i-preserved g c =
           ∙ ap (λ o. went reason o i new (take_turns blank (i + 1) new taken.result.items.now (drop (i + 1) turns))) c.in_default.is,
       did.hand,
       did.size ∙ inv.2,
-      (λ h. did.image (inv.3 h)),
-      did.lender ∙ inv.4,
-      did.lent ∙ inv.5,
+      did.lender ∙ inv.3,
+      did.lent ∙ inv.4,
     )
 
 pub returns : goal.returns
@@ -63,7 +61,6 @@ returns g c =
       hand = inv.1;
       size = inv.2;
       fault = tt;
-      image = inv.3;
-      lender = inv.4;
-      lent = inv.5;
+      lender = inv.3;
+      lent = inv.4;
     }

@@ -18,6 +18,5 @@ invariant-loop-i g l =
     l.left (drop l.i l.turns))
     × HandFits (permit_of l.held) (receiver_view l.receiver).hand
     × (size (g.S.Store.model l.store) ≡ size (g.S.Store.model l.initial.store))
-    × (g.S.Store.imaged l.initial.store → g.S.Store.imaged l.store)
     × (g.S.Store.lender l.store ≡ g.S.Store.lender l.initial.store)
     × (log_lender l.log ≡ log_lender l.initial.log)

@@ -17,6 +17,5 @@ returns g c =
       receiver = receiver_by_phase blank r m c.in-Some.item cells c.in-Some.is _ done.receiver;
       model = store_by_phase blank r m c.in-Some.item cells c.in-Some.is _ done.model;
       refused = done.refused;
-      image = done.image;
       lender = done.lender;
     }

@@ -18,7 +18,6 @@ returns-in-Idle g c =
       model = store_at blank k w m l Idle c.in-Idle.is _ (done.model k l);
       log = log_at blank k w m l Idle c.in-Idle.is _ (sym (log_idle blank k w m l));
       refused = beside c.claim.result c.claim.new.store c.args.store.now c.args.log.now done.refused;
-      image = done.image;
       lender = done.lender;
       lent = refl {a = c.args.log.now.entries.ghost_name};
     }
@@ -37,7 +36,6 @@ returns-in-Passed g c =
       model = store_at blank k w m l Passed c.in-Passed.is _ (done.model k l);
       log = log_at blank k w m l Passed c.in-Passed.is _ (sym (log_passed blank k w m l));
       refused = beside c.move_on.result c.move_on.new.store c.args.store.now c.args.log.now done.refused;
-      image = done.image;
       lender = done.lender;
       lent = refl {a = c.args.log.now.entries.ghost_name};
     }
@@ -56,7 +54,6 @@ returns-in-Seeking g c =
       model = store_at blank k w m l Seeking c.in-Seeking.is _ (sym (store_seeking blank k w m l));
       log = log_at blank k w m l Seeking c.in-Seeking.is _ (sym (log_seeking blank k w m l));
       refused = tt;
-      image = λ i. i;
       lender = refl {a = g.S.Store.lender c.args.store.now};
       lent = refl {a = c.args.log.now.entries.ghost_name};
     }
@@ -75,7 +72,6 @@ returns-in-Doubting g c =
       model = store_at blank k w m l Doubting c.in-Doubting.is _ (sym (store_doubting blank k w m l));
       log = log_at blank k w m l Doubting c.in-Doubting.is _ (sym (log_doubting blank k w m l));
       refused = tt;
-      image = λ i. i;
       lender = refl {a = g.S.Store.lender c.args.store.now};
       lent = refl {a = c.args.log.now.entries.ghost_name};
     }
@@ -94,7 +90,6 @@ returns-in-Marked g c =
       model = store_at blank k w m l Marked c.in-Marked.is _ (sym (store_marked blank k w m l));
       log = log_at blank k w m l Marked c.in-Marked.is _ (sym (log_marked blank k w m l));
       refused = tt;
-      image = λ i. i;
       lender = refl {a = g.S.Store.lender c.args.store.now};
       lent = refl {a = c.args.log.now.entries.ghost_name};
     }
@@ -113,7 +108,6 @@ returns-in-Sure g c =
       model = store_at blank k w m l Sure c.in-Sure.is _ refl;
       log = log_at blank k w m l Sure c.in-Sure.is _ refl;
       refused = tt;
-      image = λ i. i;
       lender = refl {a = g.S.Store.lender c.args.store.now};
       lent = refl {a = c.args.log.now.entries.ghost_name};
     }
