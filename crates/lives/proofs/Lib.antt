@@ -1,3 +1,2 @@
-pub mod Turning
 pub mod Living
 pub mod Beginning

@@ -1,3 +1,4 @@
 pub mod Permits
+pub mod Lent
 pub mod Turns
 pub mod Replays

@@ -3,9 +3,9 @@
 
 mod calling;
 mod held;
+mod parts;
 mod replaying;
-mod turn;
 
-pub use calling::{Turn, make};
+pub use calling::Turn;
 pub use held::Held;
-pub use replaying::replay;
+pub use parts::Parts;

@@ -1,19 +1,31 @@
 // Replays a life: a lay out, and then any list of calls.
-ghost use Rattle.std.specs.Prelude.{◌≡◌, ◌<◌, length, slice_index_or, slice_set};
-ghost use Rattle.protocol.specs.Lives.{queue_of, make};
+ghost use Rattle.std.specs.Prelude.{◌≡◌, slice_set};
 ghost use Rattle.queue.specs.Faults.{queue_reason};
-ghost use Rattle.queue.specs.Receivers.{receiver_view};
-ghost use Rattle.queue.specs.Logs.{log_view};
+ghost use Rattle.lives.specs.Lent.{queue_view, SameParts};
 ghost use Rattle.lives.specs.Permits.{permit_of};
-ghost use Rattle.lives.specs.Turns.{Makes};
 ghost use Rattle.lives.specs.Replays.{Lived, Replayed};
+ghost use Rattle.lives.specs.Turns.{told};
 
+use crate::calling::Turn;
 use crate::held::Held;
-use crate::turn::{Turn, make};
+use crate::parts::Parts;
 use items::ItemKind;
-use protocol::{Answer, Call, Worker};
-use queue::{Log, QueueFault, Receiver, lay_out};
-use stores::Store;
+use protocol::{Answer, Call};
+use queue::{QueueFault, lay_out};
+use stores::{Refusal, Store};
+
+// A refusal is told by its number and its place.
+fn told<I, F: Refusal>(answer: Result<Answer<I>, F>) -> Answer<I>
+    ensures { result ≡ told F.Refusal.reason answer }
+{
+    match answer {
+        Ok(answer) => answer,
+        Err(fault) => Answer::Refused {
+            number: fault.number(),
+            place: fault.place(),
+        },
+    }
+}
 
 // Writes an answer into its slot, if there is one.
 fn put_answer<I: Copy>(answers: &mut [Answer<I>], i: usize, answer: Answer<I>)
@@ -24,98 +36,46 @@ fn put_answer<I: Copy>(answers: &mut [Answer<I>], i: usize, answer: Answer<I>)
     }
 }
 
-fn call_at<I: Copy>(calls: &[Call<I>], i: usize) -> Call<I>
-    requires { i < length calls.now }
-    ensures { (d : Call I) → result ≡ slice_index_or calls.now i d }
-{
-    calls[i]
-}
-
-// Call `i`, its answer in slot `i`.
-fn turn<I: ItemKind, S: Store<Item = I>>(
-    store: &mut S,
-    receiver: &mut Receiver<I>,
-    workers: &mut [Worker<I>],
-    log: &mut Log<'_, I>,
-    held: Held,
-    call: Call<I>,
-    answers: &mut [Answer<I>],
-    i: usize,
-) -> Held
-    ensures made { Makes I.ItemKind.blank (queue_of (S.Store.model store.old) (receiver_view receiver.old) workers.old (log_view log.old) (permit_of held)) call (queue_of (S.Store.model store.new) (receiver_view receiver.new) workers.new (log_view log.new) (permit_of result)) (make I.ItemKind.blank (queue_of (S.Store.model store.old) (receiver_view receiver.old) workers.old (log_view log.old) (permit_of held)) call).answer }
-    ensures answer { answers.new ≡ slice_set answers.old i (make I.ItemKind.blank (queue_of (S.Store.model store.old) (receiver_view receiver.old) workers.old (log_view log.old) (permit_of held)) call).answer }
-    ensures lender { S.Store.lender store.new ≡ S.Store.lender store.old }
-    ensures lent { log.new.entries.ghost_name ≡ log.old.entries.ghost_name }
-{
-    let Turn { held, answer } = make(store, receiver, workers, log, held, call);
-    put_answer(answers, i, answer);
-    held
-}
-
-// Makes the calls one after the other.
-fn follow<I: ItemKind, S: Store<Item = I>>(
-    store: &mut S,
-    receiver: &mut Receiver<I>,
-    workers: &mut [Worker<I>],
-    log: &mut Log<'_, I>,
-    held: Held,
-    calls: &[Call<I>],
-    answers: &mut [Answer<I>],
-) -> Held
-    ensures lived { Lived I.ItemKind.blank (queue_of (S.Store.model store.old) (receiver_view receiver.old) workers.old (log_view log.old) (permit_of held)) calls.now (queue_of (S.Store.model store.new) (receiver_view receiver.new) workers.new (log_view log.new) (permit_of result)) answers.old answers.new }
-    ensures lender { S.Store.lender store.new ≡ S.Store.lender store.old }
-    ensures lent { log.new.entries.ghost_name ≡ log.old.entries.ghost_name }
-{
-    let mut held = held;
-    for i in 0..calls.len() {
-        let call = call_at(calls, i);
-        held = turn(store, receiver, workers, log, held, call, answers, i);
+impl<'a, 'b, I: ItemKind, S: Store<Item = I>> Parts<'a, 'b, I, S> {
+    // Makes the calls one after the other.
+    fn follow(&mut self, held: Held, calls: &[Call<I>], answers: &mut [Answer<I>]) -> Held
+        ensures lived { Lived I.ItemKind.blank (queue_view S.Store.model self.old (permit_of held)) calls.now (queue_view S.Store.model self.new (permit_of result)) answers.old answers.new }
+        ensures lent { SameParts S.Store.lender self.old self.new }
+    {
+        let mut held = held;
+        for (i, call) in calls.iter().enumerate() {
+            let Turn { held: next, answer } = self.make(held, *call);
+            put_answer(answers, i, told(answer));
+            held = next;
+        }
+        held
     }
-    held
-}
 
-fn live<I: ItemKind, S: Store<Item = I>>(
-    store: &mut S,
-    receiver: &mut Receiver<I>,
-    workers: &mut [Worker<I>],
-    log: &mut Log<'_, I>,
-    start: u64,
-    calls: &[Call<I>],
-    answers: &mut [Answer<I>],
-) -> Result<Held, QueueFault<S::Fault>>
-    ensures replayed { Replayed I.ItemKind.blank (queue_reason S.Fault.Refusal.reason) S.Store.model start calls.now store.old (receiver_view receiver.old) workers.old (log_view log.old) answers.old store.new (receiver_view receiver.new) workers.new (log_view log.new) answers.new result }
-    ensures lender { S.Store.lender store.new ≡ S.Store.lender store.old }
-    ensures lent { log.new.entries.ghost_name ≡ log.old.entries.ghost_name }
-{
-    match lay_out(store, receiver, workers, log, start) {
-        Ok(permit) => Ok(follow(
-            store,
-            receiver,
-            workers,
-            log,
-            Held::Free(permit),
-            calls,
-            answers,
-        )),
-        Err(fault) => Err(fault),
+    fn live(
+        &mut self,
+        start: u64,
+        calls: &[Call<I>],
+        answers: &mut [Answer<I>],
+    ) -> Result<Held, QueueFault<S::Fault>>
+        ensures replayed { Replayed I.ItemKind.blank (queue_reason S.Fault.Refusal.reason) S.Store.model start calls.now self.old answers.old self.new answers.new result }
+        ensures lent { SameParts S.Store.lender self.old self.new }
+    {
+        let permit = lay_out(self.store, self.receiver, self.workers, self.log, start)?;
+        Ok(self.follow(Held::Free(permit), calls, answers))
     }
-}
 
-// Lays a queue out at `start` and makes these calls, each through the queue's own; one whose permit is not at hand is
-// passed over. The answer of each goes into its slot, as many as there are. It hands back the permit that it then
-// holds. What the whole life promises stands on this contract.
-pub fn replay<I: ItemKind, S: Store<Item = I>>(
-    store: &mut S,
-    receiver: &mut Receiver<I>,
-    workers: &mut [Worker<I>],
-    log: &mut Log<'_, I>,
-    start: u64,
-    calls: &[Call<I>],
-    answers: &mut [Answer<I>],
-) -> Result<Held, QueueFault<S::Fault>>
-    ensures replayed { Replayed I.ItemKind.blank (queue_reason S.Fault.Refusal.reason) S.Store.model start calls.now store.old (receiver_view receiver.old) workers.old (log_view log.old) answers.old store.new (receiver_view receiver.new) workers.new (log_view log.new) answers.new result }
-    ensures lender { S.Store.lender store.new ≡ S.Store.lender store.old }
-    ensures lent { log.new.entries.ghost_name ≡ log.old.entries.ghost_name }
-{
-    live(store, receiver, workers, log, start, calls, answers)
+    // Lays a queue out at `start` and makes these calls, each through the queue's own; one whose permit is not at hand is
+    // passed over. The answer of each goes into its slot, as many as there are. It hands back the permit that it then
+    // holds. What the whole life promises stands on this contract.
+    pub fn replay(
+        &mut self,
+        start: u64,
+        calls: &[Call<I>],
+        answers: &mut [Answer<I>],
+    ) -> Result<Held, QueueFault<S::Fault>>
+        ensures replayed { Replayed I.ItemKind.blank (queue_reason S.Fault.Refusal.reason) S.Store.model start calls.now self.old answers.old self.new answers.new result }
+        ensures lent { SameParts S.Store.lender self.old self.new }
+    {
+        self.live(start, calls, answers)
+    }
 }
