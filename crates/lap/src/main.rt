@@ -13,7 +13,7 @@ use anyhow::anyhow;
 use arrangements::{ArrangedStore, Turned};
 use blocks::BlockMemory;
 use items::Reading;
-use lives::replay;
+use lives::Parts;
 use protocol::{Answer, Call, Entry, Worker, WorkerPhase};
 use queue::{Log, Receiver};
 use std::io;
@@ -52,15 +52,13 @@ fn live(
     let mut receiver = Receiver::new();
     let mut workers = [IDLE; 2];
     let mut log = Log::new(entries);
-    match replay(
-        &mut store,
-        &mut receiver,
-        &mut workers,
-        &mut log,
-        0,
-        calls,
-        answers,
-    ) {
+    let mut parts = Parts {
+        store: &mut store,
+        receiver: &mut receiver,
+        workers: &mut workers,
+        log: &mut log,
+    };
+    match parts.replay(0, calls, answers) {
         Ok(held) => {
             spend(held);
             Some(log.count())

@@ -55,7 +55,7 @@ impl<I, F> Turn<I, F> {
     }
 }
 
-impl<'a, 'b, I: ItemKind, S: Store<Item = I>> Parts<'a, 'b, I, S> {
+impl<I: ItemKind, S: Store<Item = I>> Parts<'_, '_, '_, '_, '_, I, S> {
     fn submit(&mut self, permit: FreePermit, item: I) -> Turn<I, QueueFault<S::Fault>>
         ensures made { Makes I.ItemKind.blank (queue_view S.Store.model self.old free) (Submit item) (queue_view S.Store.model self.new (permit_of result.held)) (told (queue_reason S.Fault.Refusal.reason) result.answer) }
         ensures fault { MatchResult result.answer Accepted (FaultOf S.Fault.Refusal.reason S.Fault.Refusal.layer (Submit item)) }

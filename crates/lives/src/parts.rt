@@ -1,11 +1,12 @@
-// The parts of a queue, lent for one call after another.
+// The parts of a queue, lent for one call after another. Each loan has a lifetime of its own, since what joins several
+// of them at one lifetime can't be proved yet.
 use protocol::Worker;
 use queue::{Log, Receiver};
 
 #[derive(Drop)]
-pub struct Parts<'a, 'b, I, S> {
-    pub store: &'a mut S,
-    pub receiver: &'a mut Receiver<I>,
-    pub workers: &'a mut [Worker<I>],
-    pub log: &'a mut Log<'b, I>,
+pub struct Parts<'s, 'r, 'w, 'l, 'e, I, S> {
+    pub store: &'s mut S,
+    pub receiver: &'r mut Receiver<I>,
+    pub workers: &'w mut [Worker<I>],
+    pub log: &'l mut Log<'e, I>,
 }

@@ -36,7 +36,7 @@ fn put_answer<I: Copy>(answers: &mut [Answer<I>], i: usize, answer: Answer<I>)
     }
 }
 
-impl<'a, 'b, I: ItemKind, S: Store<Item = I>> Parts<'a, 'b, I, S> {
+impl<I: ItemKind, S: Store<Item = I>> Parts<'_, '_, '_, '_, '_, I, S> {
     // Makes the calls one after the other.
     fn follow(&mut self, held: Held, calls: &[Call<I>], answers: &mut [Answer<I>]) -> Held
         ensures lived { Lived I.ItemKind.blank (queue_view S.Store.model self.old (permit_of held)) calls.now (queue_view S.Store.model self.new (permit_of result)) answers.old answers.new }

@@ -1,5 +1,6 @@
 -- From where the turns led to the end of a rehearsal, and from a lay out to its life.
-use Rattle.std.proofs.Common.{◌≡◌, ℕ, ◌<◌, List, map, take, None, sym, ap, ◌∙◌, subst, arith}
+use Rattle.std.proofs.Common.{◌≡◌, ℕ, ◌<◌, List, map, take, None, Option, Ok, Err, Result, MatchResult, IsErrAnd, sym, ap, ◌∙◌, subst, arith}
+use Rattle.queue.specs.Faults.{reason_of}
 use Rattle.std.specs.Option.{option_map}
 use Rattle.std.proofs.lemmas.List.{length-replicate}
 use Rattle.stores.specs.Refusals.{Reason}
@@ -62,3 +63,17 @@ module _ {X : Type 0} (blank : X) (m : Contents X) (ws : List (Worker X)) (l : L
       RehearsedAs reason (rehearsed blank (laid_out blank (size m) ws l start) items turns) d m' ws' l'
   from_laid reason items turns m₁ r r₁ ws₁ l₁ d m' ws' l' em er ew el h =
       subst (λ (q : Queue X). RehearsedAs reason (rehearsed blank q items turns) d m' ws' l') (begins blank m ws l start none m₁ r r₁ ws₁ l₁ em er ew el) h
+
+-- a lay out whose fault is put under another name is accepted where that answer is
+pub accepted : {V F D : Type 0} (reason : F → Reason) (r : Result V F) (r' : Result V D) (v : V) (P : F → D → Type 0) (why : Option Reason) →
+    reason_of reason r ≡ why → MatchResult r (λ x. r' ≡ Ok x) (λ f. IsErrAnd r' (P f)) → r' ≡ Ok v → why ≡ None
+accepted reason (Ok x) r' v P why said cases is = sym said
+accepted reason (Err f) r' v P why said cases is = absurd (subst (λ o. IsErrAnd o (P f)) is cases)
+
+-- it is left where its parts lie
+pub left_there : {X F S : Type 0} (reason : F → Reason) (model : S → Contents X) (e : Ended X) (d : Rehearsed (RunFault F))
+    (s s' : S) (ws ws' : List (Worker X)) (l l' : Log X) → RehearsedAs reason e d (model s) ws l → s ≡ s' → ws ≡ ws' → l ≡ l' →
+    RehearsedAs reason e d (model s') ws' l'
+left_there {X} {F} {S} reason model e d s s' ws ws' l l' h es ew el =
+    subst (λ (x : S). RehearsedAs reason e d (model x) ws' l') es
+    (subst (λ (x : List (Worker X)). RehearsedAs reason e d (model s) x l') ew (subst (λ (x : Log X). RehearsedAs reason e d (model s) ws x) el h))

@@ -1,5 +1,5 @@
 -- One turn of a rehearsal, made as a call.
-use Rattle.std.proofs.Common.{◌≡◌, ℕ, ◌+◌, ◌-◌, ◌<◌, ◌⊎◌, List, [], ◌∷◌, length, get_or, take, drop, Some, Ok, Err, Option, Result, sym, refl, ap, ◌∙◌, subst, inl, inr, arith, MatchResult}
+use Rattle.std.proofs.Common.{◌≡◌, ℕ, ◌+◌, ◌-◌, ◌<◌, ◌⊎◌, List, [], ◌∷◌, length, get_or, take, drop, Some, Ok, Err, Result, sym, refl, ap, ◌∙◌, subst, inl, inr, arith, MatchResult}
 use Rattle.std.proofs.lemmas.List.{take_all}
 use Rattle.stores.specs.declared.refusal.Layer.{Layer}
 use Rattle.stores.specs.Refusals.{Reason}
@@ -67,9 +67,9 @@ turn_fault reason layer (WorkerStep k) f h = inr h
 turn_fault reason layer Close f h = inl h
 
 -- one turn more of a rehearsal that has come to turn i
-pub turns_step : {X F : Type 0} (blank : X) (reason : F → Reason) (all : Ended X) (turns : List ℕ) (i : ℕ) (q : Queue X) (left : List X) (q' : Queue X) (left' : List X) (fault : Option (RunFault F)) →
+pub turns_step : {X F : Type 0} (blank : X) (reason : F → Reason) (all : Ended X) (turns : List ℕ) (i : ℕ) (q : Queue X) (left : List X) (q' : Queue X) (left' : List X) (outcome : Result Unit (RunFault F)) →
     i < length turns → all ≡ take_turns blank i q left (drop i turns) →
-    ((next : Queue X → List X → Ended X) → by_call blank (turn_call q left (get_or turns i 0)) i q left next ≡ went reason fault i q' (next q' left')) →
-    all ≡ went reason fault i q' (take_turns blank (i + 1) q' left' (drop (i + 1) turns))
-turns_step blank reason all turns i q left q' left' fault h came goes =
+    ((next : Queue X → List X → Ended X) → by_call blank (turn_call q left (get_or turns i 0)) i q left next ≡ went reason outcome i q' (next q' left')) →
+    all ≡ went reason outcome i q' (take_turns blank (i + 1) q' left' (drop (i + 1) turns))
+turns_step blank reason all turns i q left q' left' outcome h came goes =
     came ∙ turn_more blank i q left turns h ∙ goes (λ new rest. take_turns blank (i + 1) new rest (drop (i + 1) turns))

@@ -1,5 +1,5 @@
 -- What a rehearsal answers and leaves, and what is promised of it.
-use Rattle.std.specs.Prelude.{◌≡◌, ℕ, List, Some, None, Option, Result, MatchResult}
+use Rattle.std.specs.Prelude.{◌≡◌, ℕ, List, Some, None, Ok, Err, Result, MatchResult}
 use Rattle.std.specs.Option.{option_map}
 use Rattle.stores.specs.Refusals.{Reason}
 use Rattle.stores.specs.Model.{Contents, size}
@@ -22,9 +22,9 @@ module _ {F : Type 0} (reason : F → Reason) where
   stop_view s = record { turn = s.turn; why = run_reason reason s.fault }
 
   -- where one turn leads: it stops at a fault, and else goes on to `next`
-  abbrev pub went : {X : Type 0} → Option (RunFault F) → ℕ → Queue X → Ended X → Ended X
-  went None turn q next = next
-  went (Some f) turn q next = stops turn q (run_reason reason f)
+  abbrev pub went : {X : Type 0} → Result Unit (RunFault F) → ℕ → Queue X → Ended X → Ended X
+  went (Ok u) turn q next = next
+  went (Err f) turn q next = stops turn q (run_reason reason f)
 
   -- the answer d, and the store's model, the workers and the log that are left, are those of the rehearsal e
   pub record RehearsedAs {X : Type 0} (e : Ended X) (d : Rehearsed (RunFault F)) (m : Contents X) (ws : List (Worker X)) (l : Log X) : Type 0 where

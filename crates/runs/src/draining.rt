@@ -1,6 +1,5 @@
 // Draining a closed queue.
-ghost use Rattle.std.specs.Prelude.{◌≡◌, ◌+◌, ◌^◌, ◌<◌, IfSome, IfErr};
-ghost use Rattle.std.specs.Option.{option_map};
+ghost use Rattle.std.specs.Prelude.{◌≡◌, ◌+◌, ◌^◌, ◌<◌, Some, None, IfErr, MatchResult};
 ghost use Rattle.stores.specs.Refusals.{Reason};
 ghost use Rattle.queue.specs.Faults.{queue_reason};
 ghost use Rattle.queue.specs.Logs.{log_view, log_lender};
@@ -79,25 +78,25 @@ fn step_each<I: ItemKind, S: Store<Item = I>>(
     })
 }
 
-// Why a drain is refused before its first step, if it is.
-fn refusal<I: ItemKind, S: Store<Item = I>, F>(
+// What is checked before the first step.
+fn check<I: ItemKind, S: Store<Item = I>, F>(
     store: &S,
     workers: &[Worker<I>],
-) -> Option<RunFault<F>>
-    ensures reason { (reason : F → Reason) → option_map (run_reason reason) result ≡ no_drain (S.Store.model store.now) workers.now }
-    ensures own { IfSome result OfChecks }
+) -> Result<(), RunFault<F>>
+    ensures reason { (reason : F → Reason) → MatchResult result (λ _. no_drain (S.Store.model store.now) workers.now ≡ None) (λ f. no_drain (S.Store.model store.now) workers.now ≡ Some (run_reason reason f)) }
+    ensures own { IfErr result OfChecks }
 {
     if store.cells() == 0 {
-        return Some(RunFault::NoCells);
+        return Err(RunFault::NoCells);
     }
     let count = workers.len();
     if count == 0 || count > MAX_WORKERS {
-        return Some(RunFault::WorkerCount(count));
+        return Err(RunFault::WorkerCount(count));
     }
     if store.end_mark() == -1 {
-        return Some(RunFault::StillOpen);
+        return Err(RunFault::StillOpen);
     }
-    None
+    Ok(())
 }
 
 fn checked<I: ItemKind, S: Store<Item = I>>(
@@ -112,9 +111,9 @@ fn checked<I: ItemKind, S: Store<Item = I>>(
     ensures lender { S.Store.lender store.new ≡ S.Store.lender store.old }
     ensures lent { log_lender log.new ≡ log_lender log.old }
 {
-    match refusal(store, workers) {
-        Some(fault) => Err(DrainStop { steps: 0, fault }),
-        None => step_each(store, workers, log, budget.min(MAX_BUDGET)),
+    match check(store, workers) {
+        Ok(()) => step_each(store, workers, log, budget.min(MAX_BUDGET)),
+        Err(fault) => Err(DrainStop { steps: 0, fault }),
     }
 }
 

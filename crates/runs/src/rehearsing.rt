@@ -1,14 +1,14 @@
 // Rehearsals: turns taken from a list, each a call of the queue.
-ghost use Rattle.std.specs.Prelude.{◌≡◌, ℕ, ◌<◌, List, IfSome, None, MatchResult};
+ghost use Rattle.std.specs.Prelude.{◌≡◌, ℕ, ◌<◌, List, IfSome, IfErr, None, MatchResult};
 ghost use Rattle.std.specs.Option.{option_map};
 ghost use Rattle.stores.specs.Model.{size, with_end};
-ghost use Rattle.protocol.specs.Lives.{Queue, queue_of};
-ghost use Rattle.protocol.specs.Records.{Log as LogRecord};
+ghost use Rattle.protocol.specs.Lives.{Queue};
 ghost use Rattle.protocol.specs.Rules.{closed_at};
 ghost use Rattle.protocol.specs.State.{free};
 ghost use Rattle.queue.specs.Faults.{queue_reason};
 ghost use Rattle.queue.specs.Logs.{log_view, log_lender};
 ghost use Rattle.queue.specs.Receivers.{receiver_view};
+ghost use Rattle.lives.specs.Lent.{queue_view, SameParts};
 ghost use Rattle.lives.specs.Permits.{permit_of};
 ghost use Rattle.schedules.specs.Hands.{HandFits, receiver_call_by, party_call};
 ghost use Rattle.schedules.specs.Rehearsals.{Ended as Ending, turn_call, rest_of, items_after, by_call, take_turns, rehearsed};
@@ -17,7 +17,7 @@ ghost use Rattle.runs.specs.Rehearsals.{stop_view, went, RehearsedAs, Rehearses}
 
 use crate::fault::RunFault;
 use items::ItemKind;
-use lives::{Held, Turn, make};
+use lives::{Held, Parts, Turn};
 use protocol::{Call, Worker};
 use queue::{FreePermit, Log, QueueFault, Receiver, lay_out};
 use stores::Store;
@@ -79,48 +79,44 @@ fn call_of<I: Copy>(held: &Held, items: &[I], party: usize) -> Option<Call<I>>
 }
 
 // After a turn: the permit, the items left, and the fault if it was refused.
-struct Taken<'a, I, F> {
+struct Taken<'i, I, F> {
     held: Held,
-    items: &'a [I],
-    fault: Option<F>,
+    items: &'i [I],
+    outcome: Result<(), F>,
 }
 
-fn take_turn<'a, I: ItemKind, S: Store<Item = I>>(
-    store: &mut S,
-    receiver: &mut Receiver<I>,
-    workers: &mut [Worker<I>],
-    log: &mut Log<'_, I>,
+fn take_turn<'i, I: ItemKind, S: Store<Item = I>>(
+    parts: &mut Parts<'_, '_, '_, '_, '_, I, S>,
     held: Held,
-    items: &'a [I],
+    items: &'i [I],
     party: usize,
     turn: usize,
-) -> Taken<'a, I, RunFault<QueueFault<S::Fault>>>
-    requires { HandFits (permit_of held) (receiver_view receiver.old).hand }
-    ensures went { (next : Queue I → List I → Ending I) → by_call I.ItemKind.blank (turn_call (queue_of (S.Store.model store.old) (receiver_view receiver.old) workers.old (log_view log.old) (permit_of held)) items.now party) turn (queue_of (S.Store.model store.old) (receiver_view receiver.old) workers.old (log_view log.old) (permit_of held)) items.now next ≡ went (queue_reason S.Fault.Refusal.reason) result.fault turn (queue_of (S.Store.model store.new) (receiver_view receiver.new) workers.new (log_view log.new) (permit_of result.held)) (next (queue_of (S.Store.model store.new) (receiver_view receiver.new) workers.new (log_view log.new) (permit_of result.held)) result.items.now) }
-    ensures hand { HandFits (permit_of result.held) (receiver_view receiver.new).hand }
-    ensures size { size (S.Store.model store.new) ≡ size (S.Store.model store.old) }
-    ensures fault { IfSome result.fault (TurnFault S.Fault.Refusal.reason S.Fault.Refusal.layer) }
-    ensures lender { S.Store.lender store.new ≡ S.Store.lender store.old }
-    ensures lent { log_lender log.new ≡ log_lender log.old }
+) -> Taken<'i, I, RunFault<QueueFault<S::Fault>>>
+    requires { HandFits (permit_of held) (receiver_view parts.old.receiver.now).hand }
+    ensures went { (next : Queue I → List I → Ending I) → by_call I.ItemKind.blank (turn_call (queue_view S.Store.model parts.old (permit_of held)) items.now party) turn (queue_view S.Store.model parts.old (permit_of held)) items.now next ≡ went (queue_reason S.Fault.Refusal.reason) result.outcome turn (queue_view S.Store.model parts.new (permit_of result.held)) (next (queue_view S.Store.model parts.new (permit_of result.held)) result.items.now) }
+    ensures hand { HandFits (permit_of result.held) (receiver_view parts.new.receiver.now).hand }
+    ensures size { size (S.Store.model parts.new.store.now) ≡ size (S.Store.model parts.old.store.now) }
+    ensures fault { IfErr result.outcome (TurnFault S.Fault.Refusal.reason S.Fault.Refusal.layer) }
+    ensures lent { SameParts S.Store.lender parts.old parts.new }
 {
     let Some(call) = call_of(&held, items, party) else {
         return Taken {
             held,
             items,
-            fault: Some(RunFault::NoItemLeft(turn)),
+            outcome: Err(RunFault::NoItemLeft(turn)),
         };
     };
-    let Turn { held, answer } = make(store, receiver, workers, log, held, call);
+    let Turn { held, answer } = parts.make(held, call);
     match answer {
         Ok(_) => Taken {
             held,
             items: items_after(call, items),
-            fault: None,
+            outcome: Ok(()),
         },
         Err(fault) => Taken {
             held,
             items,
-            fault: Some(RunFault::Below(fault)),
+            outcome: Err(RunFault::Below(fault)),
         },
     }
 }
@@ -132,109 +128,74 @@ struct Ended<F> {
 }
 
 fn take_turns<I: ItemKind, S: Store<Item = I>>(
-    store: &mut S,
-    receiver: &mut Receiver<I>,
-    workers: &mut [Worker<I>],
-    log: &mut Log<'_, I>,
+    parts: &mut Parts<'_, '_, '_, '_, '_, I, S>,
     held: Held,
     items: &[I],
     turns: &[usize],
 ) -> Ended<RunFault<QueueFault<S::Fault>>>
-    requires { HandFits (permit_of held) (receiver_view receiver.old).hand }
-    ensures ended { take_turns I.ItemKind.blank 0 (queue_of (S.Store.model store.old) (receiver_view receiver.old) workers.old (log_view log.old) (permit_of held)) items.now turns.now ≡ record { queue = (queue_of (S.Store.model store.new) (receiver_view receiver.new) workers.new (log_view log.new) (permit_of result.held)); stop = option_map (stop_view (queue_reason S.Fault.Refusal.reason)) result.stop } }
-    ensures hand { HandFits (permit_of result.held) (receiver_view receiver.new).hand }
-    ensures size { size (S.Store.model store.new) ≡ size (S.Store.model store.old) }
+    requires { HandFits (permit_of held) (receiver_view parts.old.receiver.now).hand }
+    ensures ended { take_turns I.ItemKind.blank 0 (queue_view S.Store.model parts.old (permit_of held)) items.now turns.now ≡ record { queue = (queue_view S.Store.model parts.new (permit_of result.held)); stop = option_map (stop_view (queue_reason S.Fault.Refusal.reason)) result.stop } }
+    ensures hand { HandFits (permit_of result.held) (receiver_view parts.new.receiver.now).hand }
+    ensures size { size (S.Store.model parts.new.store.now) ≡ size (S.Store.model parts.old.store.now) }
     ensures fault { IfSome result.stop (λ s. TurnFault S.Fault.Refusal.reason S.Fault.Refusal.layer s.fault) }
-    ensures lender { S.Store.lender store.new ≡ S.Store.lender store.old }
-    ensures lent { log_lender log.new ≡ log_lender log.old }
+    ensures lent { SameParts S.Store.lender parts.old parts.new }
 {
     let mut held = held;
     let mut left = items;
-    for i in 0..turns.len() {
+    for (turn, party) in turns.iter().enumerate() {
         let Taken {
-            held: permit,
+            held: next,
             items: rest,
-            fault,
-        } = take_turn(store, receiver, workers, log, held, left, turns[i], i);
-        held = permit;
+            outcome,
+        } = take_turn(parts, held, left, *party, turn);
+        held = next;
         left = rest;
-        if let Some(fault) = fault {
+        if let Err(fault) = outcome {
             return Ended {
                 held,
-                stop: Some(Stop { turn: i, fault }),
+                stop: Some(Stop { turn, fault }),
             };
         }
     }
     Ended { held, stop: None }
 }
 
-// Closes a queue whose hand is empty: it has cells, so no close is refused.
-fn close<I: ItemKind, S: Store<Item = I>>(
-    store: &mut S,
-    receiver: &Receiver<I>,
-    permit: FreePermit,
-) -> i64
-    requires cells { 0 < size (S.Store.model store.old) }
-    requires hand { (receiver_view receiver.now).hand ≡ None }
-    ensures end { result ≡ closed_at (receiver_view receiver.now) (S.Store.model store.old) }
-    ensures model { S.Store.model store.new ≡ with_end (S.Store.model store.old) (closed_at (receiver_view receiver.now) (S.Store.model store.old)) }
-    ensures lender { S.Store.lender store.new ≡ S.Store.lender store.old }
+// Withdraws what is in hand, and closes. The queue has cells and then an empty hand, so the close is not refused.
+fn finish<I: ItemKind, S: Store<Item = I>>(parts: &mut Parts<'_, '_, '_, '_, '_, I, S>, held: Held) -> i64
+    requires cells { 0 < size (S.Store.model parts.old.store.now) }
+    requires hand { HandFits (permit_of held) (receiver_view parts.old.receiver.now).hand }
+    ensures end { result ≡ closed_at (receiver_view parts.old.receiver.now) (S.Store.model parts.old.store.now) }
+    ensures model { S.Store.model parts.new.store.now ≡ with_end (S.Store.model parts.old.store.now) (closed_at (receiver_view parts.old.receiver.now) (S.Store.model parts.old.store.now)) }
+    ensures workers { parts.new.workers.now ≡ parts.old.workers.now }
+    ensures log { log_view parts.new.log.now ≡ log_view parts.old.log.now }
+    ensures lent { SameParts S.Store.lender parts.old parts.new }
 {
-    match receiver.close(store, permit) {
+    let permit = match held {
+        Held::Free(permit) => permit,
+        Held::Full(permit) => parts.receiver.withdraw(permit).1,
+        Held::Spent => unreachable(),
+    };
+    match parts.receiver.close(parts.store, permit) {
         Ok(end) => end,
         Err(_) => unreachable(),
     }
 }
 
-// Withdraws what is in hand, and closes.
-fn finish<I: ItemKind, S: Store<Item = I>>(
-    store: &mut S,
-    receiver: &mut Receiver<I>,
-    held: Held,
-) -> i64
-    requires cells { 0 < size (S.Store.model store.old) }
-    requires hand { HandFits (permit_of held) (receiver_view receiver.old).hand }
-    ensures end { result ≡ closed_at (receiver_view receiver.old) (S.Store.model store.old) }
-    ensures model { S.Store.model store.new ≡ with_end (S.Store.model store.old) (closed_at (receiver_view receiver.old) (S.Store.model store.old)) }
-    ensures lender { S.Store.lender store.new ≡ S.Store.lender store.old }
-{
-    match held {
-        Held::Free(permit) => close(store, receiver, permit),
-        Held::Full(permit) => {
-            let (_, permit) = receiver.withdraw(permit);
-            close(store, receiver, permit)
-        }
-        Held::Spent => unreachable(),
-    }
-}
-
 // The turns in a queue that is laid out, and what follows the last of them.
 fn perform<I: ItemKind, S: Store<Item = I>>(
-    store: &mut S,
-    receiver: &mut Receiver<I>,
-    workers: &mut [Worker<I>],
-    log: &mut Log<'_, I>,
+    parts: &mut Parts<'_, '_, '_, '_, '_, I, S>,
     permit: FreePermit,
     items: &[I],
     turns: &[usize],
 ) -> Rehearsed<RunFault<QueueFault<S::Fault>>>
-    requires cells { 0 < size (S.Store.model store.old) }
-    requires hand { (receiver_view receiver.old).hand ≡ None }
-    ensures rehearsed { RehearsedAs (queue_reason S.Fault.Refusal.reason) (rehearsed I.ItemKind.blank (queue_of (S.Store.model store.old) (receiver_view receiver.old) workers.old (log_view log.old) free) items.now turns.now) result (S.Store.model store.new) workers.new (log_view log.new) }
+    requires cells { 0 < size (S.Store.model parts.old.store.now) }
+    requires hand { (receiver_view parts.old.receiver.now).hand ≡ None }
+    ensures rehearsed { RehearsedAs (queue_reason S.Fault.Refusal.reason) (rehearsed I.ItemKind.blank (queue_view S.Store.model parts.old free) items.now turns.now) result (S.Store.model parts.new.store.now) parts.new.workers.now (log_view parts.new.log.now) }
     ensures fault { IfSome result.stop (λ s. TurnFault S.Fault.Refusal.reason S.Fault.Refusal.layer s.fault) }
-    ensures lender { S.Store.lender store.new ≡ S.Store.lender store.old }
-    ensures lent { log_lender log.new ≡ log_lender log.old }
+    ensures lent { SameParts S.Store.lender parts.old parts.new }
 {
-    let Ended { held, stop } = take_turns(
-        store,
-        receiver,
-        workers,
-        log,
-        Held::Free(permit),
-        items,
-        turns,
-    );
-    let end = finish(store, receiver, held);
+    let Ended { held, stop } = take_turns(parts, Held::Free(permit), items, turns);
+    let end = finish(parts, held);
     Rehearsed { end, stop }
 }
 
@@ -252,10 +213,14 @@ fn laid_out<I: ItemKind, S: Store<Item = I>>(
     ensures lent { log_lender log.new ≡ log_lender log.old }
 {
     let mut receiver = Receiver::new();
-    match lay_out(store, &mut receiver, workers, log, start) {
-        Ok(permit) => Ok(perform(store, &mut receiver, workers, log, permit, items, turns)),
-        Err(fault) => Err(RunFault::Below(fault)),
-    }
+    let permit = lay_out(store, &mut receiver, workers, log, start).map_err(RunFault::Below)?;
+    let mut parts = Parts {
+        store,
+        receiver: &mut receiver,
+        workers,
+        log,
+    };
+    Ok(perform(&mut parts, permit, items, turns))
 }
 
 // Lays a queue out at `start` and takes the turns one after the other: 0 is the receiver, which submits the next item

@@ -1,4 +1,4 @@
-use Rattle.std.proofs.Common.{ℕ, Some, None, Err, sym, refl, subst}
+use Rattle.std.proofs.Common.{ℕ, Some, None, Err, refl, subst}
 use Rattle.queue.specs.Faults.{queue_reason}
 use Rattle.queue.specs.Logs.{log_view}
 use Rattle.schedules.specs.Drains.{drain_from}
@@ -7,31 +7,31 @@ use Rattle.runs.specs.Drains.{DrainedAs}
 use Rattle.runs.proofs.DrainAnswers.{as_ended, by_checks, checks_own, step_fault, no_check, cases_weaker}
 use Rattle.runs.proofs.draining.checked.Goals as goal
 
-pub returns-in-Some : goal.returns-in-Some
-returns-in-Some g c =
+pub returns-in-Err : goal.returns-in-Err
+returns-in-Err g c =
     let reason = queue_reason g.S.Fault.Refusal.reason in
     let ws = c.args.workers.now in
     let m = g.S.Store.model c.args.store.now in
     let l = log_view c.args.log.now in
-    let said = c.in-Some.ensures in
+    let said = c.in-Err.ensures in
     record {
       drained =
-          by_checks g.I.ItemKind.blank reason c.args.budget ws m l (Some (run_reason reason c.in-Some.fault)) (Err (record { steps = 0; fault = c.in-Some.fault })) ws m l
-          (sym (said.reason reason)) (as_ended g.I.ItemKind.blank reason _ (Err (record { steps = 0; fault = c.in-Some.fault })) ws m l refl);
-      fault = checks_own g.S.Fault.Refusal.reason g.S.Fault.Refusal.layer c.in-Some.fault said.own;
+          by_checks g.I.ItemKind.blank reason c.args.budget ws m l (Some (run_reason reason c.in-Err.fault)) (Err (record { steps = 0; fault = c.in-Err.fault })) ws m l
+          (said.reason reason) (as_ended g.I.ItemKind.blank reason _ (Err (record { steps = 0; fault = c.in-Err.fault })) ws m l refl);
+      fault = checks_own g.S.Fault.Refusal.reason g.S.Fault.Refusal.layer c.in-Err.fault said.own;
       refused = λ _. (refl, refl, refl);
       lender = refl;
       lent = refl;
     }
 
-pub returns-in-None : goal.returns-in-None
-returns-in-None g c =
+pub returns-in-Ok : goal.returns-in-Ok
+returns-in-Ok g c =
     let reason = queue_reason g.S.Fault.Refusal.reason in
     let done = c.step_each.ensures in
     record {
       drained =
           by_checks g.I.ItemKind.blank reason c.args.budget c.args.workers.now (g.S.Store.model c.args.store.now) (log_view c.args.log.now) None c.step_each.result _ _ _
-          (sym (c.in-None.ensures.reason reason))
+          (c.in-Ok.ensures.reason reason)
           (subst
           (λ (n : ℕ). DrainedAs reason (drain_from g.I.ItemKind.blank n 0 0 c.args.workers.now (g.S.Store.model c.args.store.now) (log_view c.args.log.now))
           c.step_each.result c.step_each.new.workers (g.S.Store.model c.step_each.new.store) (log_view c.step_each.new.log))

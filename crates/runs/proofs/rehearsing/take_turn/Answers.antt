@@ -1,8 +1,6 @@
 use Rattle.std.proofs.Common.{sym, ap, ◌∙◌, subst, MatchResult}
-use Rattle.protocol.specs.Lives.{queue_of}
 use Rattle.queue.specs.Faults.{queue_reason}
-use Rattle.queue.specs.Logs.{log_view}
-use Rattle.queue.specs.Receivers.{receiver_view}
+use Rattle.lives.specs.Lent.{queue_view}
 use Rattle.lives.specs.Permits.{permit_of}
 use Rattle.lives.specs.Turns.{told, Accepted, FaultOf}
 use Rattle.runs.proofs.Turns.{turn_accepted, turn_refused, turn_is, hand_after, size_after, turn_fault}
@@ -12,8 +10,8 @@ pub returns-in-Ok : goal.returns-in-Ok
 returns-in-Ok g c =
     let blank = g.I.ItemKind.blank in
     let reason = queue_reason g.S.Fault.Refusal.reason in
-    let q = queue_of (g.S.Store.model c.args.store.now) (receiver_view c.args.receiver.now) c.args.workers.now (log_view c.args.log.now) (permit_of c.args.held) in
-    let new = queue_of (g.S.Store.model c.make-held.new.store) (receiver_view c.make-held.new.receiver) c.make-held.new.workers (log_view c.make-held.new.log) (permit_of c.make-held.result.held) in
+    let q = queue_view g.S.Store.model c.args.parts.now (permit_of c.args.held) in
+    let new = queue_view g.S.Store.model c.make-held.new.self (permit_of c.make-held.result.held) in
     let items = c.args.items.now in
     let call = c.in-Some.call in
     let answer = c.make-held.result.answer in
@@ -26,7 +24,6 @@ returns-in-Ok g c =
       hand = hand_after blank q items c.args.party call new (told reason answer) c.requires is made.made;
       size = size_after blank q items c.args.party call new (told reason answer) c.requires made.made;
       fault = tt;
-      lender = made.lender;
       lent = made.lent;
     }
 
@@ -34,8 +31,8 @@ pub returns-in-Err : goal.returns-in-Err
 returns-in-Err g c =
     let blank = g.I.ItemKind.blank in
     let reason = queue_reason g.S.Fault.Refusal.reason in
-    let q = queue_of (g.S.Store.model c.args.store.now) (receiver_view c.args.receiver.now) c.args.workers.now (log_view c.args.log.now) (permit_of c.args.held) in
-    let new = queue_of (g.S.Store.model c.make-held.new.store) (receiver_view c.make-held.new.receiver) c.make-held.new.workers (log_view c.make-held.new.log) (permit_of c.make-held.result.held) in
+    let q = queue_view g.S.Store.model c.args.parts.now (permit_of c.args.held) in
+    let new = queue_view g.S.Store.model c.make-held.new.self (permit_of c.make-held.result.held) in
     let items = c.args.items.now in
     let call = c.in-Some.call in
     let answer = c.make-held.result.answer in
@@ -48,6 +45,5 @@ returns-in-Err g c =
       fault =
           turn_fault g.S.Fault.Refusal.reason g.S.Fault.Refusal.layer call c.in-Err.fault
           (subst (λ o. MatchResult o Accepted (FaultOf g.S.Fault.Refusal.reason g.S.Fault.Refusal.layer call)) c.in-Err.is made.fault);
-      lender = made.lender;
       lent = made.lent;
     }

@@ -1,8 +1,6 @@
-use Rattle.std.proofs.Common.{◌+◌, drop, IfSome, ap, ◌∙◌, subst}
-use Rattle.protocol.specs.Lives.{queue_of}
+use Rattle.std.proofs.Common.{◌+◌, drop, IfErr, ap, ◌∙◌, subst, rules}
 use Rattle.queue.specs.Faults.{queue_reason}
-use Rattle.queue.specs.Logs.{log_view}
-use Rattle.queue.specs.Receivers.{receiver_view}
+use Rattle.lives.specs.Lent.{queue_view}
 use Rattle.lives.specs.Permits.{permit_of}
 use Rattle.schedules.specs.Rehearsals.{take_turns}
 use Rattle.schedules.proofs.Rehearsing.{turns_over}
@@ -11,56 +9,57 @@ use Rattle.runs.specs.Rehearsals.{went}
 use Rattle.runs.proofs.Turns.{turns_step}
 use Rattle.runs.proofs.rehearsing.take_turns.Goals as goal
 
-pub returns-in-Some : goal.returns-in-Some
-returns-in-Some g c =
-    let inv = c.loop-i.invariant in
+pub returns-in-Err : goal.returns-in-Err
+returns-in-Err g c =
+    let inv = c.loop-turn.invariant in
     let blank = g.I.ItemKind.blank in
     let reason = queue_reason g.S.Fault.Refusal.reason in
-    let q = queue_of (g.S.Store.model c.loop-i.store) (receiver_view c.loop-i.receiver) c.loop-i.workers (log_view c.loop-i.log) (permit_of c.loop-i.held) in
-    let taken = c.take_turn-permit in
-    let new = queue_of (g.S.Store.model taken.new.store) (receiver_view taken.new.receiver) taken.new.workers (log_view taken.new.log) (permit_of taken.result.held) in
+    let q = queue_view g.S.Store.model c.loop-turn.parts (permit_of c.loop-turn.held) in
+    let taken = c.take_turn-next in
+    let new = queue_view g.S.Store.model taken.new.parts (permit_of taken.result.held) in
     let turns = c.args.turns.now in
-    let i = c.loop-i.i in
+    let i = c.loop-turn.turn in
     let did = taken.ensures in
     record {
       ended =
-          turns_step blank reason _ turns i q c.loop-i.left.now new taken.result.items.now taken.result.fault c.loop-i-test.true inv.0 did.went
-          ∙ ap (λ o. went reason o i new (take_turns blank (i + 1) new taken.result.items.now (drop (i + 1) turns))) c.in-Some.is;
+          turns_step blank reason _ turns i q c.loop-turn.left.now new taken.result.items.now taken.result.outcome c.loop-turn-test.true inv.ended did.went
+          ∙ ap (λ o. went reason o i new (take_turns blank (i + 1) new taken.result.items.now (drop (i + 1) turns))) c.in-Err.is;
       hand = did.hand;
-      size = did.size ∙ inv.2;
-      fault = subst (λ o. IfSome o (TurnFault g.S.Fault.Refusal.reason g.S.Fault.Refusal.layer)) c.in-Some.is did.fault;
-      lender = did.lender ∙ inv.3;
-      lent = did.lent ∙ inv.4;
+      size = did.size ∙ inv.size;
+      fault = subst (λ o. IfErr o (TurnFault g.S.Fault.Refusal.reason g.S.Fault.Refusal.layer)) c.in-Err.is did.fault;
+      lent = search rules;
     }
 
-pub loop-i-preserved : goal.loop-i-preserved
-loop-i-preserved g c =
-    let inv = c.loop-i.invariant in
+pub loop-turn-preserved : goal.loop-turn-preserved
+loop-turn-preserved g c =
+    let inv = c.loop-turn.invariant in
     let blank = g.I.ItemKind.blank in
     let reason = queue_reason g.S.Fault.Refusal.reason in
-    let q = queue_of (g.S.Store.model c.loop-i.store) (receiver_view c.loop-i.receiver) c.loop-i.workers (log_view c.loop-i.log) (permit_of c.loop-i.held) in
-    let taken = c.take_turn-permit in
-    let new = queue_of (g.S.Store.model taken.new.store) (receiver_view taken.new.receiver) taken.new.workers (log_view taken.new.log) (permit_of taken.result.held) in
+    let q = queue_view g.S.Store.model c.loop-turn.parts (permit_of c.loop-turn.held) in
+    let taken = c.take_turn-next in
+    let new = queue_view g.S.Store.model taken.new.parts (permit_of taken.result.held) in
     let turns = c.args.turns.now in
-    let i = c.loop-i.i in
-    let did = taken.ensures in (
-      turns_step blank reason _ turns i q c.loop-i.left.now new taken.result.items.now taken.result.fault c.loop-i-test.true inv.0 did.went
-          ∙ ap (λ o. went reason o i new (take_turns blank (i + 1) new taken.result.items.now (drop (i + 1) turns))) c.in_default.is,
-      did.hand,
-      did.size ∙ inv.2,
-      did.lender ∙ inv.3,
-      did.lent ∙ inv.4,
-    )
+    let i = c.loop-turn.turn in
+    let did = taken.ensures in
+    record {
+      ended =
+          turns_step blank reason _ turns i q c.loop-turn.left.now new taken.result.items.now taken.result.outcome c.loop-turn-test.true inv.ended did.went
+          ∙ ap (λ o. went reason o i new (take_turns blank (i + 1) new taken.result.items.now (drop (i + 1) turns))) c.in_default.is;
+      hand = did.hand;
+      size = did.size ∙ inv.size;
+      lent = search rules;
+    }
 
 pub returns : goal.returns
 returns g c =
-    let inv = c.loop-i.invariant in
-    let q = queue_of (g.S.Store.model c.loop-i.store) (receiver_view c.loop-i.receiver) c.loop-i.workers (log_view c.loop-i.log) (permit_of c.loop-i.held) in
+    let inv = c.loop-turn.invariant in
     record {
-      ended = inv.0 ∙ turns_over g.I.ItemKind.blank c.loop-i.i q c.loop-i.left.now c.args.turns.now c.loop-i-test.false;
-      hand = inv.1;
-      size = inv.2;
+      ended =
+          inv.ended
+          ∙ turns_over g.I.ItemKind.blank c.loop-turn.turn (queue_view g.S.Store.model c.loop-turn.parts (permit_of c.loop-turn.held)) c.loop-turn.left.now
+          c.args.turns.now c.loop-turn-test.false;
+      hand = inv.hand;
+      size = inv.size;
       fault = tt;
-      lender = inv.3;
-      lent = inv.4;
+      lent = inv.lent;
     }
