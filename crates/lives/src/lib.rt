@@ -5,6 +5,7 @@ mod calling;
 mod held;
 mod parts;
 mod replaying;
+mod spare;
 
 pub use calling::Turn;
 pub use held::Held;
