@@ -17,30 +17,21 @@ pub(crate) fn item_in<I: ItemKind, S: Store<Item = I>>(store: &S, rank: u64) -> 
     requires { 0 < size (S.Store.model store.now) }
     ensures value { result ≡ (cell_of I.ItemKind.blank (S.Store.model store.now) (rank % size (S.Store.model store.now))).item }
 {
-    match store.item(cell_of(rank, store.cells())) {
-        Ok(item) => item,
-        Err(_) => unreachable(),
-    }
+    store.item(cell_of(rank, store.cells())).unwrap()
 }
 
 pub(crate) fn rank_in<I: ItemKind, S: Store<Item = I>>(store: &S, rank: u64) -> i64
     requires { 0 < size (S.Store.model store.now) }
     ensures value { result ≡ (cell_of I.ItemKind.blank (S.Store.model store.now) (rank % size (S.Store.model store.now))).rank }
 {
-    match store.rank(cell_of(rank, store.cells())) {
-        Ok(rank) => rank,
-        Err(_) => unreachable(),
-    }
+    store.rank(cell_of(rank, store.cells())).unwrap()
 }
 
 pub(crate) fn gap_in<I: ItemKind, S: Store<Item = I>>(store: &S, rank: u64) -> i64
     requires { 0 < size (S.Store.model store.now) }
     ensures value { result ≡ (cell_of I.ItemKind.blank (S.Store.model store.now) (rank % size (S.Store.model store.now))).gap }
 {
-    match store.gap(cell_of(rank, store.cells())) {
-        Ok(gap) => gap,
-        Err(_) => unreachable(),
-    }
+    store.gap(cell_of(rank, store.cells())).unwrap()
 }
 
 pub(crate) fn put_item<I: ItemKind, S: Store<Item = I>>(store: &mut S, rank: u64, item: I)
@@ -50,10 +41,7 @@ pub(crate) fn put_item<I: ItemKind, S: Store<Item = I>>(store: &mut S, rank: u64
     ensures lender { S.Store.lender store.new ≡ S.Store.lender store.old }
 {
     let cell = cell_of(rank, store.cells());
-    match store.put_item(cell, item) {
-        Ok(()) => {}
-        Err(_) => unreachable(),
-    }
+    store.put_item(cell, item).unwrap();
 }
 
 pub(crate) fn put_rank<I: ItemKind, S: Store<Item = I>>(store: &mut S, rank: u64, value: i64)
@@ -63,10 +51,7 @@ pub(crate) fn put_rank<I: ItemKind, S: Store<Item = I>>(store: &mut S, rank: u64
     ensures lender { S.Store.lender store.new ≡ S.Store.lender store.old }
 {
     let cell = cell_of(rank, store.cells());
-    match store.put_rank(cell, value) {
-        Ok(()) => {}
-        Err(_) => unreachable(),
-    }
+    store.put_rank(cell, value).unwrap();
 }
 
 pub(crate) fn put_gap<I: ItemKind, S: Store<Item = I>>(store: &mut S, rank: u64, value: i64)
@@ -76,8 +61,5 @@ pub(crate) fn put_gap<I: ItemKind, S: Store<Item = I>>(store: &mut S, rank: u64,
     ensures lender { S.Store.lender store.new ≡ S.Store.lender store.old }
 {
     let cell = cell_of(rank, store.cells());
-    match store.put_gap(cell, value) {
-        Ok(()) => {}
-        Err(_) => unreachable(),
-    }
+    store.put_gap(cell, value).unwrap();
 }

@@ -1,5 +1,5 @@
 // The log of deliveries, in entries that the caller lends.
-ghost use Rattle.std.specs.Prelude.{◌≡◌, ◌+◌, ◌<◌, min, length, take, nat_le, slice_set};
+ghost use Rattle.std.specs.Prelude.{◌≡◌, ◌+◌, ◌<◌, min, length, nat_le, slice_set};
 ghost use Rattle.std.specs.Option.{option_map};
 ghost use Rattle.protocol.specs.Rules.{emptied_log};
 ghost use Rattle.queue.specs.Logs.{log_view, log_lender, kept, first_under};
@@ -17,33 +17,7 @@ pub struct Log<'a, I> {
 pub fn find<I>(entries: &[Entry<I>], rank: u64) -> Option<&Entry<I>>
     ensures { option_map (λ x. x.now) result ≡ first_under rank entries.now }
 {
-    first_under(entries, rank)
-}
-
-fn first_under<I>(entries: &[Entry<I>], rank: u64) -> Option<&Entry<I>>
-    ensures { option_map (λ x. x.now) result ≡ first_under rank entries.now }
-{
-    for e in entries {
-        if e.rank == rank {
-            return Some(e);
-        }
-    }
-    None
-}
-
-// All of them where there are fewer than `count`.
-fn first_entries<I>(entries: &[Entry<I>], count: usize) -> &[Entry<I>]
-    ensures { result.now ≡ take count entries.now }
-{
-    let end = count.min(entries.len());
-    &entries[0..end]
-}
-
-fn put<I: Copy>(entries: &mut [Entry<I>], i: usize, entry: Entry<I>)
-    requires { i < length entries.old }
-    ensures { entries.new ≡ slice_set entries.old i entry }
-{
-    entries[i] = entry;
+    entries.iter().find(|e| e.rank == rank)
 }
 
 impl<'a, I: Copy> Log<'a, I> {
@@ -68,7 +42,7 @@ impl<'a, I: Copy> Log<'a, I> {
     pub fn entry(&self, rank: u64) -> Option<&Entry<I>>
         ensures { option_map (λ x. x.now) result ≡ first_under rank (kept (log_view self.now)) }
     {
-        find(first_entries(self.entries, self.count), rank)
+        find(&self.entries[..self.count()], rank)
     }
 
     pub(crate) fn is_full(&self) -> bool
@@ -83,9 +57,8 @@ impl<'a, I: Copy> Log<'a, I> {
         ensures count { (log_view self.new).count ≡ (log_view self.old).count + 1 }
         ensures lent { log_lender self.new ≡ log_lender self.old }
     {
-        let count = self.count;
-        put(self.entries, count, entry);
-        self.count = count + 1;
+        self.entries[self.count] = entry;
+        self.count += 1;
     }
 
     // Keeps no entry; the memory stays.

@@ -33,16 +33,10 @@ impl<I: ItemKind> Receiver<I> {
         ensures lender { S.Store.lender store.new ≡ S.Store.lender store.old }
     {
         if store.cells() == 0 {
-            return Err(Refused {
-                permit,
-                fault: QueueFault::NoCells,
-            });
+            return Err(Refused::new(permit, QueueFault::NoCells));
         }
         let Some(item) = self.hand else {
-            return Err(Refused {
-                permit,
-                fault: QueueFault::HandEmpty,
-            });
+            return Err(Refused::new(permit, QueueFault::HandEmpty));
         };
         self.step_with(store, permit, item)
     }
@@ -85,10 +79,7 @@ impl<I: ItemKind> Receiver<I> {
     {
         let tail = self.tail;
         if tail >= LIMIT {
-            return Err(Refused {
-                permit,
-                fault: QueueFault::TailAtLimit,
-            });
+            return Err(Refused::new(permit, QueueFault::TailAtLimit));
         }
         let phase = if numbers::is_used(cells::rank_in(store, tail)) {
             ReceiverPhase::Busy
