@@ -6,10 +6,11 @@ ghost use Rattle.queue.specs.Faults.{queue_reason, Own};
 ghost use Rattle.queue.specs.Receivers.{receiver_view, step_said, step_answer};
 ghost use Rattle.stores.specs.Model.{size};
 
+use crate::cells::cell_of;
 use crate::fault::QueueFault;
+use crate::numbers;
 use crate::permit::{FullPermit, ReceiverStep, Refused};
 use crate::receiver::Receiver;
-use crate::{cells, numbers};
 use items::ItemKind;
 use protocol::ReceiverPhase;
 use stores::Store;
@@ -81,7 +82,8 @@ impl<I: ItemKind> Receiver<I> {
         if tail >= LIMIT {
             return Err(Refused::new(permit, QueueFault::TailAtLimit));
         }
-        let phase = if numbers::is_used(cells::rank_in(store, tail)) {
+        let stored = store.rank(cell_of(store, tail)).unwrap();
+        let phase = if numbers::is_used(stored) {
             ReceiverPhase::Busy
         } else {
             ReceiverPhase::Found
@@ -101,7 +103,8 @@ impl<I: ItemKind> Receiver<I> {
         ensures lender { S.Store.lender store.new ≡ S.Store.lender store.old }
     {
         let tail = self.tail;
-        cells::put_gap(store, tail, tail as i64);
+        let cell = cell_of(store, tail);
+        store.put_gap(cell, tail as i64).unwrap();
         self.tail = tail + 1;
         self.phase = ReceiverPhase::Probing;
         ReceiverStep::Skipped(permit, tail)
@@ -123,7 +126,8 @@ impl<I: ItemKind> Receiver<I> {
         ensures lender { S.Store.lender store.new ≡ S.Store.lender store.old }
     {
         let tail = self.tail;
-        cells::put_item(store, tail, item);
+        let cell = cell_of(store, tail);
+        store.put_item(cell, item).unwrap();
         self.phase = ReceiverPhase::Filled;
         ReceiverStep::Stepped(permit, ReceiverPhase::Filled, tail)
     }
@@ -139,7 +143,8 @@ impl<I: ItemKind> Receiver<I> {
         ensures lender { S.Store.lender store.new ≡ S.Store.lender store.old }
     {
         let tail = self.tail;
-        cells::put_rank(store, tail, tail as i64);
+        let cell = cell_of(store, tail);
+        store.put_rank(cell, tail as i64).unwrap();
         self.tail = tail + 1;
         self.phase = ReceiverPhase::Probing;
         self.hand = None;

@@ -1,2 +1,0 @@
-pub mod Receiving
-pub mod Working
