@@ -14,7 +14,7 @@ use arrangements::{ArrangedStore, Turned};
 use blocks::BlockMemory;
 use items::Reading;
 use lives::replay;
-use protocol::{Answer, Call, Entry, Worker, WorkerPhase};
+use protocol::{Answer, Call, Entry, Worker};
 use queue::{Log, Receiver};
 use std::io;
 
@@ -26,12 +26,6 @@ const BLANK: Reading = Reading {
     probe: 0,
     sequence: 0,
     level: 0,
-};
-
-const IDLE: Worker<Reading> = Worker {
-    phase: WorkerPhase::Idle,
-    rank: 0,
-    copy: BLANK,
 };
 
 const NO_ENTRY: Entry<Reading> = Entry {
@@ -50,7 +44,7 @@ fn live(
     let mut bytes = [0u8; BYTES];
     let mut store = ArrangedStore::new(BlockMemory::new(&mut bytes, CELLS), Turned);
     let mut receiver = Receiver::new();
-    let mut workers = [IDLE; 2];
+    let mut workers = [Worker::idle(); 2];
     let mut log = Log::new(entries);
     match replay(
         &mut store,

@@ -66,14 +66,6 @@ fn live<I: ItemKind, S: Store<Item = I>>(
     }
 }
 
-fn idle<I: ItemKind>() -> Worker<I> {
-    Worker {
-        phase: WorkerPhase::Idle,
-        rank: 0,
-        copy: I::blank(),
-    }
-}
-
 fn first<I: ItemKind>(item: I) -> Entry<I> {
     Entry {
         rank: 0,
@@ -88,7 +80,7 @@ fn notices_over_turned_block_memory(rt: HostRuntime) {
     let mut store = ArrangedStore::new(BlockMemory::new(&mut bytes, 16), Turned);
     let mut answers = [Answer::NotMade; 9];
     let mut entries = [first(Notice::Nothing); 2];
-    let mut workers = [idle()];
+    let mut workers = [Worker::idle()];
     let count = live(
         &mut store,
         &mut workers,
@@ -113,7 +105,7 @@ fn readings_over_record_memory(rt: HostRuntime) {
     let mut store = RecordMemory::new(&mut cells);
     let mut answers = [Answer::NotMade; 9];
     let mut entries = [first(Reading::blank()); 2];
-    let mut workers = [idle()];
+    let mut workers = [Worker::idle()];
     let count = live(
         &mut store,
         &mut workers,
@@ -149,7 +141,7 @@ fn a_used_cell_is_skipped(rt: HostRuntime) {
     ];
     let mut answers = [Answer::NotMade; 14];
     let mut entries: [Entry<Reading>; 0] = [];
-    let mut workers = [idle()];
+    let mut workers = [Worker::idle()];
     let count = live(&mut store, &mut workers, &calls, &mut answers, &mut entries);
     assert_eq!(rt; count, Some(0));
     assert_eq!(rt;

@@ -33,7 +33,7 @@ fn worker(phase: WorkerPhase, rank: u64) -> Worker<Reading> {
 fn the_last_rank_is_handed_out(rt: HostRuntime) -> Result<(), Fail> {
     let mut cells = [CELL; 2];
     let mut store = RecordMemory::new(&mut cells);
-    let mut workers = [worker(WorkerPhase::Idle, 0); 2];
+    let mut workers = [Worker::idle(); 2];
     let mut entries: [Entry<Reading>; 0] = [];
     let mut log = Log::new(&mut entries);
     match lay_out(
