@@ -39,24 +39,6 @@ impl<I: ItemKind> Receiver<I> {
         let Some(item) = self.hand else {
             return Err(Refused::new(permit, QueueFault::HandEmpty));
         };
-        self.step_with(store, permit, item)
-    }
-
-    fn step_with<S: Store<Item = I>>(
-        &mut self,
-        store: &mut S,
-        permit: FullPermit,
-        item: I,
-    ) -> Result<ReceiverStep, Refused<FullPermit, QueueFault<S::Fault>>>
-        requires { 0 < size (S.Store.model store.old) }
-        ensures answer { step_answer (queue_reason S.Fault.Refusal.reason) result ≡ (step_in I.ItemKind.blank (receiver_view self.old) (S.Store.model store.old) (receiver_view self.old).phase item).answer }
-        ensures own { IfErr result (λ e. Own e.fault) }
-        ensures receiver { receiver_view self.new ≡ (step_in I.ItemKind.blank (receiver_view self.old) (S.Store.model store.old) (receiver_view self.old).phase item).receiver }
-        ensures model { S.Store.model store.new ≡ (step_in I.ItemKind.blank (receiver_view self.old) (S.Store.model store.old) (receiver_view self.old).phase item).store }
-        ensures refused { OnErr result ((store.new ≡ store.old) × (self.new ≡ self.old)) }
-        ensures image { S.Store.imaged store.old → S.Store.imaged store.new }
-        ensures lender { S.Store.lender store.new ≡ S.Store.lender store.old }
-    {
         match self.phase {
             ReceiverPhase::Probing => self.probe(store, permit),
             ReceiverPhase::Busy => Ok(self.skip(store, permit)),
