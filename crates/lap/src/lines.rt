@@ -1,6 +1,6 @@
 // Calls, answers and entries in plain words.
 use items::Reading;
-use protocol::{Answer, Call, Entry, ReceiverAnswer, ReceiverPhase, WorkerAnswer, WorkerPhase};
+use protocol::{Answer, Call, Entry, WorkerAnswer};
 use std::fmt;
 
 #[derive(Drop)]
@@ -13,31 +13,7 @@ pub(crate) struct AnswerText(pub(crate) Answer<Reading>);
 pub(crate) struct EntryText(pub(crate) Entry<Reading>);
 
 #[derive(Drop)]
-struct ReceiverText(ReceiverAnswer);
-
-#[derive(Drop)]
 struct WorkerText(WorkerAnswer<Reading>);
-
-fn receiver_word(phase: ReceiverPhase) -> &'static str {
-    match phase {
-        ReceiverPhase::Probing => "probing",
-        ReceiverPhase::Busy => "busy",
-        ReceiverPhase::Found => "found",
-        ReceiverPhase::Filled => "filled",
-    }
-}
-
-fn worker_word(phase: WorkerPhase) -> &'static str {
-    match phase {
-        WorkerPhase::Idle => "idle",
-        WorkerPhase::Seeking => "seeking",
-        WorkerPhase::Doubting => "doubting",
-        WorkerPhase::Marked => "marked",
-        WorkerPhase::Passed => "passed",
-        WorkerPhase::Sure => "sure",
-        WorkerPhase::Copied => "copied",
-    }
-}
 
 impl fmt::Display for CallText {
     fn fmt<W: fmt::Write>(&self, f: &mut fmt::Formatter<W>) -> fmt::Result {
@@ -54,19 +30,6 @@ impl fmt::Display for CallText {
     }
 }
 
-impl fmt::Display for ReceiverText {
-    fn fmt<W: fmt::Write>(&self, f: &mut fmt::Formatter<W>) -> fmt::Result {
-        match self.0 {
-            ReceiverAnswer::Stepped(phase, tail) => {
-                let word = receiver_word(phase);
-                write!(f, "{word} {tail}")
-            }
-            ReceiverAnswer::Skipped(rank) => write!(f, "skipped {rank}"),
-            ReceiverAnswer::Announced(rank) => write!(f, "announced {rank}"),
-        }
-    }
-}
-
 impl fmt::Display for WorkerText {
     fn fmt<W: fmt::Write>(&self, f: &mut fmt::Formatter<W>) -> fmt::Result {
         match self.0 {
@@ -75,10 +38,7 @@ impl fmt::Display for WorkerText {
             WorkerAnswer::MovedOn(rank) => write!(f, "moved on to {rank}"),
             WorkerAnswer::Waiting(rank) => write!(f, "waiting {rank}"),
             WorkerAnswer::GivenUp(rank) => write!(f, "given up {rank}"),
-            WorkerAnswer::Stepped(phase, rank) => {
-                let word = worker_word(phase);
-                write!(f, "{word} {rank}")
-            }
+            WorkerAnswer::Stepped(phase, rank) => write!(f, "{phase} {rank}"),
             WorkerAnswer::Delivered(rank, item) => {
                 let probe = item.probe;
                 write!(f, "delivered {rank} probe {probe}")
@@ -98,10 +58,7 @@ impl fmt::Display for AnswerText {
                 write!(f, "withdrew probe {probe}")
             }
             Answer::Withdrew(None) => write!(f, "withdrew nothing"),
-            Answer::Received(answer) => {
-                let answer = ReceiverText(answer);
-                write!(f, "{answer}")
-            }
+            Answer::Received(answer) => write!(f, "{answer}"),
             Answer::Worked(answer) => {
                 let answer = WorkerText(answer);
                 write!(f, "{answer}")

@@ -4,17 +4,15 @@
 
 mod lines;
 mod schedule;
-mod spare;
 
 use crate::lines::{AnswerText, CallText, EntryText};
 use crate::schedule::{no_answers, schedule};
-use crate::spare::spend;
 use anyhow::anyhow;
 use arrangements::{ArrangedStore, Turned};
 use blocks::BlockMemory;
 use items::Reading;
 use lives::Parts;
-use protocol::{Answer, Call, Entry, Worker, WorkerPhase};
+use protocol::{Answer, Call, Entry, Worker};
 use queue::{Log, Receiver};
 use std::io;
 
@@ -26,12 +24,6 @@ const BLANK: Reading = Reading {
     probe: 0,
     sequence: 0,
     level: 0,
-};
-
-const IDLE: Worker<Reading> = Worker {
-    phase: WorkerPhase::Idle,
-    rank: 0,
-    copy: BLANK,
 };
 
 const NO_ENTRY: Entry<Reading> = Entry {
@@ -50,7 +42,7 @@ fn live(
     let mut bytes = [0u8; BYTES];
     let mut store = ArrangedStore::new(BlockMemory::new(&mut bytes, CELLS), Turned);
     let mut receiver = Receiver::new();
-    let mut workers = [IDLE; 2];
+    let mut workers = [Worker::idle(); 2];
     let mut log = Log::new(entries);
     let mut parts = Parts {
         store: &mut store,
@@ -60,7 +52,7 @@ fn live(
     };
     match parts.replay(0, calls, answers) {
         Ok(held) => {
-            spend(held);
+            let _ = held.close_spare();
             Some(log.count())
         }
         Err(_) => None,

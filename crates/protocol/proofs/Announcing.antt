@@ -1,5 +1,6 @@
 -- The bound on announcing: a free cell is near the tail, and each step of the receiver comes nearer to it.
 use Rattle.std.proofs.Common.{◌≡◌, ℕ, zero, suc, ◌+◌, ◌-◌, ◌*◌, ◌%◌, ◌<◌, ◌≤◌, true, false, ◌⊎◌, List, [], ◌∷◌, pos, negsuc, Some, sym, refl, ap, ◌∙◌, subst, inl, inr, add-zero, arith}
+use Rattle.std.proofs.lemmas.Bool.{false≢true}
 use Rattle.stores.specs.declared.cell.Cell.{Cell}
 use Rattle.stores.specs.Model.{cell_rank, cell_gap}
 use Rattle.protocol.specs.declared.record.ReceiverPhase.{ReceiverPhase}
@@ -11,7 +12,7 @@ use Rattle.protocol.specs.Events.{Event, submitted, withdrew, received}
 use Rattle.protocol.specs.Steps.{Step, is_not_made, is_refused, submits, withdraws, closes, finds_used, finds_free, skips, fills, announces, idle_finds_over, claims, becomes_sure, doubts, marks, gives_up, waits, passes, passed_finds_over, moves_on, copies, delivers, Run, here, then, own_cell, own_rank, after_submit, after_deliver}
 use Rattle.protocol.specs.Account.{Account, announcing, note}
 use Rattle.protocol.specs.Promise.{announcement, used_cells, is_received, received_in, empties_hand, NoneEmpties, AnnouncedOrWithdrawn, AnnouncedInTime}
-use Rattle.protocol.proofs.Tables.{put_at, put_keeps, none_some, is_T}
+use Rattle.protocol.proofs.Tables.{put_at, put_keeps, none_some}
 use Rattle.protocol.proofs.FreeCell.{free_one}
 
 module _ {X : Type 0} (n : ℕ) where
@@ -36,7 +37,7 @@ module _ {X : Type 0} (n : ℕ) where
   wait_free Filled cells cells' t m f h = h
 
   wait_busy : (cells : ℕ → Cell X) (t m : ℕ) → used (cells (t % n)).rank ≡ true → Wait Probing cells t m → Wait Busy cells t (m - 1)
-  wait_busy cells t m u (zero, v, h) = absurd (is_T false (sym v ∙ (ap (λ i. used (cells (i % n)).rank) (add-zero t) ∙ u)))
+  wait_busy cells t m u (zero, v, h) = absurd (false≢true (sym v ∙ (ap (λ i. used (cells (i % n)).rank) (add-zero t) ∙ u)))
   wait_busy cells t m u (suc j, v, h) = (j, (let e : t + suc j ≡ t + 1 + j = omega arith in subst (λ i. used (cells (i % n)).rank ≡ false) e v), omega arith)
 
   -- x is in hand, and within m steps of its announcement

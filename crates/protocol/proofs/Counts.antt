@@ -1,5 +1,6 @@
 -- Used cells and undelivered items counted, over a change of one cell, an announcement and a delivery.
 use Rattle.std.proofs.Common.{◌≡◌, ℕ, zero, suc, ◌+◌, ◌<◌, ◌≤◌, false, eqb, ◌≢◌, List, [], ◌∷◌, ◌++◌, sym, refl, ap, ◌∙◌, inl, inr, arith}
+use Rattle.std.proofs.lemmas.Bool.{eq-eqb, ne_eqb}
 use native.Mathlib.Decide.{ℕ_discrete}
 use Rattle.stores.specs.declared.cell.Cell.{Cell}
 use Rattle.protocol.specs.declared.record.Entry.{Entry}
@@ -7,7 +8,7 @@ use Rattle.protocol.specs.Tests.{used}
 use Rattle.protocol.specs.State.{put}
 use Rattle.protocol.specs.Account.{Announcement, In, one_if, times, times_announced, undelivered}
 use Rattle.protocol.specs.Promise.{announcement, used_cells}
-use Rattle.protocol.proofs.Tables.{eqb_yes, eqb_no, put_same, put_other, times_same, times_other}
+use Rattle.protocol.proofs.Tables.{put_same, put_other, times_same, times_other}
 
 module _ {X : Type 0} where
   -- cells that are used alike
@@ -57,11 +58,11 @@ module _ {X : Type 0} where
   -- announcements under a rank
   pub announced_same : (r : ℕ) (v : Announcement X) (announced : List (Announcement X)) → v.rank ≡ r → times_announced r (v ∷ announced) ≡ suc (times_announced r announced)
   unfolding times_announced
-  announced_same r v announced h = let e : one_if (eqb v.rank r) ≡ 1 = ap one_if (eqb_yes v.rank r h) in omega arith
+  announced_same r v announced h = let e : one_if (eqb v.rank r) ≡ 1 = ap one_if (eq-eqb v.rank r h) in omega arith
 
   pub announced_other : (r : ℕ) (v : Announcement X) (announced : List (Announcement X)) → v.rank ≢ r → times_announced r (v ∷ announced) ≡ times_announced r announced
   unfolding times_announced
-  announced_other r v announced h = let e : one_if (eqb v.rank r) ≡ 0 = ap one_if (eqb_no v.rank r h) in omega arith
+  announced_other r v announced h = let e : one_if (eqb v.rank r) ≡ 0 = ap one_if (ne_eqb v.rank r h) in omega arith
 
   pub announced_none : (r : ℕ) (announced : List (Announcement X)) → ((x : X) → In (announcement r x) announced → ⊥) → times_announced r announced ≡ 0
   unfolding times_announced
@@ -77,7 +78,7 @@ module _ {X : Type 0} where
   -- an item whose rank is not logged is announced
   pub undelivered_next : (v : Announcement X) (announced : List (Announcement X)) (log : List (Entry X)) → times v.rank log ≡ 0 → undelivered (v ∷ announced) log ≡ suc (undelivered announced log)
   unfolding undelivered
-  undelivered_next v announced log h = let e : one_if (eqb (times v.rank log) 0) ≡ 1 = ap one_if (eqb_yes (times v.rank log) 0 h) in omega arith
+  undelivered_next v announced log h = let e : one_if (eqb (times v.rank log) 0) ≡ 1 = ap one_if (eq-eqb (times v.rank log) 0 h) in omega arith
 
   -- a rank that is not logged is delivered
   pub undelivered_less : (e : Entry X) (announced : List (Announcement X)) (log : List (Entry X)) → times e.rank log ≡ 0 → undelivered announced (log ++ (e ∷ [])) + times_announced e.rank announced ≡ undelivered announced log
@@ -89,11 +90,11 @@ module _ {X : Type 0} where
           undelivered l (log ++ (e ∷ [])) + one_if (eqb (times v.rank (log ++ (e ∷ []))) 0) + (times_announced e.rank l + one_if (eqb v.rank e.rank)) ≡ undelivered l log + one_if (eqb (times v.rank log) 0)
       go (yes q) ih =
           let more : times v.rank (log ++ (e ∷ [])) ≡ suc (times e.rank log) = ap (λ r. times r (log ++ (e ∷ []))) q ∙ times_same log e in
-          let a : one_if (eqb (times v.rank (log ++ (e ∷ []))) 0) ≡ 0 = ap one_if (eqb_no (times v.rank (log ++ (e ∷ []))) 0 (omega arith)) in
-          let b : one_if (eqb v.rank e.rank) ≡ 1 = ap one_if (eqb_yes v.rank e.rank q) in
-          let c : one_if (eqb (times v.rank log) 0) ≡ 1 = ap one_if (eqb_yes (times v.rank log) 0 (ap (λ r. times r log) q ∙ h)) in
+          let a : one_if (eqb (times v.rank (log ++ (e ∷ []))) 0) ≡ 0 = ap one_if (ne_eqb (times v.rank (log ++ (e ∷ []))) 0 (omega arith)) in
+          let b : one_if (eqb v.rank e.rank) ≡ 1 = ap one_if (eq-eqb v.rank e.rank q) in
+          let c : one_if (eqb (times v.rank log) 0) ≡ 1 = ap one_if (eq-eqb (times v.rank log) 0 (ap (λ r. times r log) q ∙ h)) in
           omega arith
       go (no k) ih =
           let a : one_if (eqb (times v.rank (log ++ (e ∷ []))) 0) ≡ one_if (eqb (times v.rank log) 0) = ap (λ t. one_if (eqb t 0)) (times_other log e v.rank (λ q. k (sym q))) in
-          let b : one_if (eqb v.rank e.rank) ≡ 0 = ap one_if (eqb_no v.rank e.rank k) in
+          let b : one_if (eqb v.rank e.rank) ≡ 0 = ap one_if (ne_eqb v.rank e.rank k) in
           omega arith

@@ -1,5 +1,6 @@
 -- A worker that holds a settled rank is finished with it within four accepted steps of its own.
 use Rattle.std.proofs.Common.{◌≡◌, ℕ, ◌+◌, ◌%◌, ◌<◌, ◌≤◌, Bool, true, false, eqb, ◌≢◌, ◌⊎◌, List, [], ◌∷◌, pos, Some, None, Option, sym, refl, ap, ◌∙◌, subst, inl, inr, arith}
+use Rattle.std.proofs.lemmas.Bool.{eq-eqb, ne_eqb}
 use native.Mathlib.Decide.{ℕ_discrete}
 use Rattle.protocol.specs.declared.record.WorkerPhase.{WorkerPhase}
 use Rattle.protocol.specs.declared.record.WorkerPhase.TheVariants.{Idle, Seeking, Doubting, Marked, Passed, Sure, Copied}
@@ -13,7 +14,7 @@ use Rattle.protocol.specs.Events.{Event, not_made, refused, submitted, withdrew,
 use Rattle.protocol.specs.Steps.{Step, is_not_made, is_refused, submits, withdraws, closes, finds_used, finds_free, skips, fills, announces, idle_finds_over, claims, becomes_sure, doubts, marks, gives_up, waits, passes, passed_finds_over, moves_on, copies, delivers, Run, here, then, own_cell, own_rank, in_phase}
 use Rattle.protocol.specs.Account.{Announcement, Account, In, one_if, announcing, note_received, note_worked, note}
 use Rattle.protocol.specs.Promise.{announcement, is_of, steps_of, Finishes, FinishedWithin, FinishedInTime}
-use Rattle.protocol.proofs.Tables.{put_same, put_other, none_some, equals_yes, equals_no, past_yes, covers_no, eqb_yes, eqb_no}
+use Rattle.protocol.proofs.Tables.{put_same, put_other, none_some, equals_yes, equals_no, past_yes, covers_no}
 use Rattle.protocol.proofs.Invariant.{Invariant}
 use Rattle.protocol.proofs.Workers.{worker_holds}
 use Rattle.protocol.proofs.Kept.{keep, worker_fits}
@@ -113,7 +114,7 @@ module _ {X : Type 0} where
     fewer : (b : Bool) (j : ℕ) (w : Worker X) (p : WorkerPhase) → (s.workers j).phase ≡ p → steps_left b w.phase + 1 ≤ steps_left b p → steps_left b (put s.workers j w j).phase + one_if (eqb j j) ≤ steps_left b (s.workers j).phase
     fewer b j w p e h =
         subst (λ v. steps_left b v.phase + one_if (eqb j j) ≤ steps_left b (s.workers j).phase) (sym (put_same s.workers j w))
-        (subst (λ t. steps_left b w.phase + one_if t ≤ steps_left b (s.workers j).phase) (sym (eqb_yes j j refl))
+        (subst (λ t. steps_left b w.phase + one_if t ≤ steps_left b (s.workers j).phase) (sym (eq-eqb j j refl))
         (subst (λ q. steps_left b w.phase + 1 ≤ steps_left b q) (sym e) h))
 
     own_step : (b : Bool) (j : ℕ) (w : WorkerAnswer X) (s' : State X) → Step z s (worked j w) s' → a.held j ≡ Some (own_rank s j) → SettledAs b a (own_rank s j) → Onward b s s' (note a (worked j w)) j (own_rank s j) (worked j w)
@@ -150,7 +151,7 @@ module _ {X : Type 0} where
     Own k e = (w : WorkerAnswer X) × (e ≡ worked k w)
 
     not_own : (k j : ℕ) → j ≢ k → one_if (eqb j k) ≡ 0
-    not_own k j h = ap one_if (eqb_no j k h)
+    not_own k j h = ap one_if (ne_eqb j k h)
 
     same_record : (k j : ℕ) (w : Worker X) → j ≢ k → put s.workers j w k ≡ s.workers k
     same_record k j w h = put_other s.workers j w k (λ e. h (sym e))

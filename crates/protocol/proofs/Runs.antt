@@ -2,17 +2,13 @@
 use Rattle.std.proofs.Common.{◌≡◌, List, [], ◌∷◌, ◌++◌, refl}
 use Rattle.protocol.specs.State.{Sizes, State}
 use Rattle.protocol.specs.Events.{Event}
-use Rattle.protocol.specs.Steps.{Step, Run, here, then}
+use Rattle.protocol.specs.Steps.{Run, here, then}
 use Rattle.protocol.specs.Account.{Account, note, noted}
 
 module _ {X : Type 0} {z : Sizes} where
   pub run_join : {s t u : State X} {es fs : List (Event X)} → Run z s es t → Run z t fs u → Run z s (es ++ fs) u
   run_join here r = r
   run_join (then st run) r = then st (run_join run r)
-
-  -- one more step
-  pub run_more : {s t u : State X} {es : List (Event X)} {e : Event X} → Run z s es t → Step z t e u → Run z s (es ++ (e ∷ [])) u
-  run_more run st = run_join run (then st here)
 
   -- a run comes through a state at every point
   pub run_split : (es : List (Event X)) {fs : List (Event X)} {s u : State X} → Run z s (es ++ fs) u → (t : State X) × Run z s es t × Run z t fs u

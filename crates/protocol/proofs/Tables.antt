@@ -1,39 +1,22 @@
 -- One place of a table changed; entries counted; membership; the tests as facts.
-use Rattle.std.proofs.Common.{◌≡◌, ℕ, suc, ◌+◌, ◌<◌, ◌≤◌, Bool, true, false, cond, not, T, eqb, leb, ◌≢◌, ◌⊎◌, List, [], ◌∷◌, ◌++◌, ℤ, pos, negsuc, Some, None, sym, refl, ap, ◌∙◌, subst, inl, inr, arith, eqb→eq, leb→le}
+use Rattle.std.proofs.Common.{◌≡◌, ℕ, suc, ◌+◌, ◌<◌, ◌≤◌, true, false, cond, eqb, ◌≢◌, ◌⊎◌, List, [], ◌∷◌, ◌++◌, ℤ, pos, negsuc, Some, None, sym, refl, ap, ◌∙◌, subst, inl, inr, arith}
 use mathlib.Core.Path.{fun_ext}
 use native.Mathlib.Decide.{ℕ_discrete}
-use lib.Dec.{eqb_refl, nleb→lt}
+use Rattle.std.proofs.lemmas.Bool.{false≢true, leb-true, leb-false, eqb-true, eq-eqb, ne_eqb}
 use Rattle.protocol.specs.declared.record.Entry.{Entry}
 use Rattle.protocol.specs.Tests.{is_rank, covers, ended_by, used}
 use Rattle.protocol.specs.State.{put}
 use Rattle.protocol.specs.Account.{In, one_if, times}
 
-pub T_is : (b : Bool) → T b → b ≡ true
-T_is true t = refl
-T_is false t = absurd t
-
-pub is_T : (b : Bool) → b ≡ true → T b
-is_T b e = subst T (sym e) tt
-
-pub eqb_no : (m n : ℕ) → m ≢ n → eqb m n ≡ false
-eqb_no m n h = go (eqb m n) refl
-  where
-    go : (b : Bool) → eqb m n ≡ b → eqb m n ≡ false
-    go true e = absurd (h (eqb→eq m n (is_T (eqb m n) e)))
-    go false e = e
-
-pub eqb_yes : (m n : ℕ) → m ≡ n → eqb m n ≡ true
-eqb_yes m n h = subst (λ k. eqb m k ≡ true) h (T_is (eqb m m) (eqb_refl m))
-
 -- tables
 module _ {V : Type 0} where
   pub put_same : (f : ℕ → V) (i : ℕ) (v : V) → put f i v i ≡ v
   unfolding put
-  put_same f i v = ap (λ b. cond b v (f i)) (eqb_yes i i refl)
+  put_same f i v = ap (λ b. cond b v (f i)) (eq-eqb i i refl)
 
   pub put_other : (f : ℕ → V) (i : ℕ) (v : V) (j : ℕ) → j ≢ i → put f i v j ≡ f j
   unfolding put
-  put_other f i v j h = ap (λ b. cond b v (f j)) (eqb_no j i h)
+  put_other f i v j h = ap (λ b. cond b v (f j)) (ne_eqb j i h)
 
   -- what holds of the new value if j is the place, and of the old one if it is not, holds at j
   pub put_at : (P : V → Type 0) (f : ℕ → V) (i : ℕ) (v : V) (j : ℕ) → (j ≡ i → P v) → (j ≢ i → P (f j)) → P (put f i v j)
@@ -74,17 +57,17 @@ module _ {X : Type 0} where
     where
       go : Dec (d.rank ≡ r) → (times r l ≡ 0) ⊎ ((e : Entry X) × In e l × (e.rank ≡ r)) → (times r l + one_if (eqb d.rank r) ≡ 0) ⊎ ((e : Entry X) × In e (d ∷ l) × (e.rank ≡ r))
       go (yes q) h = inr (d, inl refl, q)
-      go (no k) (inl none) = inl (let b : one_if (eqb d.rank r) ≡ 0 = ap one_if (eqb_no d.rank r k) in omega arith)
+      go (no k) (inl none) = inl (let b : one_if (eqb d.rank r) ≡ 0 = ap one_if (ne_eqb d.rank r k) in omega arith)
       go (no k) (inr (e, m, q)) = inr (e, inr m, q)
 
   pub times_same : (l : List (Entry X)) (e : Entry X) → times e.rank (l ++ (e ∷ [])) ≡ suc (times e.rank l)
   unfolding times
-  times_same [] e = ap (λ b. 0 + one_if b) (eqb_yes e.rank e.rank refl)
+  times_same [] e = ap (λ b. 0 + one_if b) (eq-eqb e.rank e.rank refl)
   times_same (d ∷ l) e = let ih : times e.rank (l ++ (e ∷ [])) ≡ suc (times e.rank l) = times_same l e in omega arith
 
   pub times_other : (l : List (Entry X)) (e : Entry X) (r : ℕ) → e.rank ≢ r → times r (l ++ (e ∷ [])) ≡ times r l
   unfolding times
-  times_other [] e r h = ap (λ b. 0 + one_if b) (eqb_no e.rank r h)
+  times_other [] e r h = ap (λ b. 0 + one_if b) (ne_eqb e.rank r h)
   times_other (d ∷ l) e r h = ap (λ t. t + one_if (eqb d.rank r)) (times_other l e r h)
 
 -- membership
@@ -110,26 +93,26 @@ module _ {V : Type 0} where
 
 -- the tests, as facts
 pub equals_yes : (v : ℤ) (r : ℕ) → is_rank v r ≡ true → v ≡ pos r
-equals_yes (pos a) r e = ap pos (eqb→eq a r (is_T (eqb a r) e))
-equals_yes (negsuc m) r e = absurd (is_T false e)
+equals_yes (pos a) r e = ap pos (eqb-true a r e)
+equals_yes (negsuc m) r e = absurd (false≢true e)
 
 pub equals_no : (v : ℤ) (r : ℕ) → is_rank v r ≡ false → v ≡ pos r → ⊥
-equals_no v r e h = absurd (is_T false (sym e ∙ (ap (λ w. is_rank w r) h ∙ eqb_yes r r refl)))
+equals_no v r e h = absurd (false≢true (sym e ∙ (ap (λ w. is_rank w r) h ∙ eq-eqb r r refl)))
 
 pub past_yes : (v : ℤ) (h : ℕ) → ended_by v h ≡ true → (e : ℕ) × (v ≡ pos e) × (e ≤ h)
-past_yes (pos e) h t = (e, refl, leb→le e h (is_T (leb e h) t))
-past_yes (negsuc m) h t = absurd (is_T false t)
+past_yes (pos e) h t = (e, refl, leb-true e h t)
+past_yes (negsuc m) h t = absurd (false≢true t)
 
 pub covers_yes : (v : ℤ) (r : ℕ) → covers v r ≡ true → (g : ℕ) × (v ≡ pos g) × (r ≤ g)
-covers_yes (pos g) r t = (g, refl, leb→le r g (is_T (leb r g) t))
-covers_yes (negsuc m) r t = absurd (is_T false t)
+covers_yes (pos g) r t = (g, refl, leb-true r g t)
+covers_yes (negsuc m) r t = absurd (false≢true t)
 
 pub covers_no : (v : ℤ) (r g : ℕ) → covers v r ≡ false → v ≡ pos g → r ≤ g → ⊥
-covers_no (pos a) r g t h k = let f : a < r = nleb→lt r a (subst (λ b. T (not b)) (sym t) tt) in let q : a ≡ g = cc in omega arith
+covers_no (pos a) r g t h k = let f : a < r = leb-false r a t in let q : a ≡ g = cc in omega arith
 covers_no (negsuc m) r g t h k = let q : ◌≡◌ {A = ℕ} 0 1 = cc in omega arith
 
 pub unused_no : (v : ℤ) (r : ℕ) → used v ≡ false → v ≡ pos r → ⊥
-unused_no v r e h = is_T false (sym e ∙ ap used h)
+unused_no v r e h = false≢true (sym e ∙ ap used h)
 
 -- constructors
 pub pos_eq : (a b : ℕ) → pos a ≡ pos b → a ≡ b

@@ -1,5 +1,6 @@
 pub mod Tests
 pub mod Records
+pub mod Words
 pub mod Pending
 pub mod Rules
 pub mod State

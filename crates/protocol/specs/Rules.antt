@@ -127,21 +127,27 @@ module _ {X : Type 0} (blank : X) (k : ℕ) (w : Worker X) (m : Contents X) (l :
   abbrev pub takes_next : (ℕ → WorkerAnswer X) → Stepped X
   takes_next a = cond (nat_le limit m.head) (refused 6 0) (becomes (a m.head) Seeking m.head w.copy (with_head m (m.head + 1)) l)
 
+  -- the same, unless the queue is over
+  abbrev pub takes : (ℕ → WorkerAnswer X) → Stepped X
+  takes a = cond (ended_by m.end m.head) (goes (worker.Over m.end) Idle) (takes_next a)
+
+  -- by whether the own rank stands in its cell; `absent` is the phase where it does not
+  abbrev pub looks : WorkerPhase → Stepped X
+  looks absent =
+      cond (is_rank (cell_of blank m own_cell).rank w.rank) (goes (worker.Stepped Sure w.rank) Sure)
+      (goes (worker.Stepped absent w.rank) absent)
+
   abbrev pub entered : Log X
   entered = record { entries = slice_set l.entries l.count (record { rank = w.rank; worker = k; item = w.copy }); count = l.count + 1 }
 
   abbrev pub work_in : WorkerPhase → Stepped X
-  work_in Idle = cond (ended_by m.end m.head) (goes (worker.Over m.end) Idle) (takes_next worker.Claimed)
-  work_in Seeking =
-      cond (is_rank (cell_of blank m own_cell).rank w.rank) (goes (worker.Stepped Sure w.rank) Sure)
-      (goes (worker.Stepped Doubting w.rank) Doubting)
+  work_in Idle = takes worker.Claimed
+  work_in Seeking = looks Doubting
   work_in Doubting =
       cond (covers (cell_of blank m own_cell).gap w.rank) (goes (worker.Stepped Marked w.rank) Marked)
       (cond (ended_by m.end w.rank) (goes (worker.GivenUp w.rank) Idle) (goes (worker.Waiting w.rank) Seeking))
-  work_in Marked =
-      cond (is_rank (cell_of blank m own_cell).rank w.rank) (goes (worker.Stepped Sure w.rank) Sure)
-      (goes (worker.Stepped Passed w.rank) Passed)
-  work_in Passed = cond (ended_by m.end m.head) (goes (worker.Over m.end) Idle) (takes_next worker.MovedOn)
+  work_in Marked = looks Passed
+  work_in Passed = takes worker.MovedOn
   work_in Sure = becomes (worker.Stepped Copied w.rank) Copied w.rank (cell_of blank m own_cell).item m l
   work_in Copied =
       cond (nat_le (length l.entries) l.count) (refused 7 k)

@@ -5,6 +5,7 @@
 mod answer;
 mod record;
 mod theorem;
+mod words;
 
 pub use answer::{Answer, Call, ReceiverAnswer, WorkerAnswer};
 pub use record::{Entry, ReceiverPhase, Worker, WorkerPhase};

@@ -1,4 +1,7 @@
 // The records that the queue's calls read and write beside the store.
+ghost use Rattle.std.specs.Prelude.{◌≡◌};
+
+use items::ItemKind;
 
 // How far the receiver is with the item in its hand.
 #[derive(Clone, Copy, PartialEq, Eq, Debug)]
@@ -38,6 +41,21 @@ pub struct Worker<I> {
     pub phase: WorkerPhase,
     pub rank: u64,
     pub copy: I,
+}
+
+impl<I: ItemKind> Worker<I> {
+    // A worker that has held no rank yet.
+    pub fn idle() -> Worker<I>
+        ensures phase { result.phase ≡ WorkerPhase.Idle }
+        ensures rank { result.rank ≡ 0 }
+        ensures copy { result.copy ≡ I.ItemKind.blank }
+    {
+        Worker {
+            phase: WorkerPhase::Idle,
+            rank: 0,
+            copy: I::blank(),
+        }
+    }
 }
 
 // A delivery in the log.

@@ -1,4 +1,1 @@
-pub mod Receiving
 pub mod Finding
-pub mod Working
-pub mod Table

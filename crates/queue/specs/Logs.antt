@@ -1,5 +1,6 @@
 -- A log over lent entries, and the first entry under a rank.
-use Rattle.std.specs.Prelude.{ℕ, cond, List, [], ◌∷◌, take, Some, None, Option, ◌==◌}
+use Rattle.std.specs.Prelude.{ℕ, List, take, Option, ◌==◌}
+use Rattle.std.specs.List.{find}
 use Rattle.protocol.specs.declared.record.Entry.{Entry}
 use Rattle.protocol.specs.Records.{Log}
 use Rattle.queue.specs.declared.log.Log.{Log as Lent}
@@ -16,5 +17,4 @@ abbrev pub kept : {X : Type 0} → Log X → List (Entry X)
 kept l = take l.count l.entries
 
 abbrev pub first_under : {X : Type 0} → ℕ → List (Entry X) → Option (Entry X)
-first_under rank [] = None
-first_under rank (e ∷ es) = cond (e.rank == rank) (Some e) (first_under rank es)
+first_under rank es = find (λ e. e.rank == rank) es

@@ -1,80 +1,15 @@
-// The cell of a rank. A store that has cells has this one, so it refuses none of these calls.
+// The cell of a rank.
 ghost use Rattle.std.specs.Prelude.{◌≡◌, ◌%◌, ◌<◌};
-ghost use Rattle.stores.specs.Model.{size, cell_of, with_item, with_rank, with_gap};
+ghost use Rattle.stores.specs.Model.{size};
 
-use items::ItemKind;
 use stores::Store;
 
-fn cell_of(rank: u64, n: usize) -> usize
-    requires { 0 < n }
-    ensures value { result ≡ rank % n }
-    ensures within { result < n }
-{
-    (rank % n as u64) as usize
-}
-
-pub(crate) fn item_in<I: ItemKind, S: Store<Item = I>>(store: &S, rank: u64) -> I
+// A store that has cells has this one, so it refuses no call that names it. That it has some stays a `requires`: a struct
+// over the store that carried the fact would need, in the same contracts, the clause that it still holds that store.
+pub(crate) fn cell_of<S: Store>(store: &S, rank: u64) -> usize
     requires { 0 < size (S.Store.model store.now) }
-    ensures value { result ≡ (cell_of I.ItemKind.blank (S.Store.model store.now) (rank % size (S.Store.model store.now))).item }
+    ensures value { result ≡ rank % size (S.Store.model store.now) }
+    ensures within { result < size (S.Store.model store.now) }
 {
-    match store.item(cell_of(rank, store.cells())) {
-        Ok(item) => item,
-        Err(_) => unreachable(),
-    }
-}
-
-pub(crate) fn rank_in<I: ItemKind, S: Store<Item = I>>(store: &S, rank: u64) -> i64
-    requires { 0 < size (S.Store.model store.now) }
-    ensures value { result ≡ (cell_of I.ItemKind.blank (S.Store.model store.now) (rank % size (S.Store.model store.now))).rank }
-{
-    match store.rank(cell_of(rank, store.cells())) {
-        Ok(rank) => rank,
-        Err(_) => unreachable(),
-    }
-}
-
-pub(crate) fn gap_in<I: ItemKind, S: Store<Item = I>>(store: &S, rank: u64) -> i64
-    requires { 0 < size (S.Store.model store.now) }
-    ensures value { result ≡ (cell_of I.ItemKind.blank (S.Store.model store.now) (rank % size (S.Store.model store.now))).gap }
-{
-    match store.gap(cell_of(rank, store.cells())) {
-        Ok(gap) => gap,
-        Err(_) => unreachable(),
-    }
-}
-
-pub(crate) fn put_item<I: ItemKind, S: Store<Item = I>>(store: &mut S, rank: u64, item: I)
-    requires { 0 < size (S.Store.model store.old) }
-    ensures model { S.Store.model store.new ≡ with_item I.ItemKind.blank (S.Store.model store.old) (rank % size (S.Store.model store.old)) item }
-    ensures lender { S.Store.lender store.new ≡ S.Store.lender store.old }
-{
-    let cell = cell_of(rank, store.cells());
-    match store.put_item(cell, item) {
-        Ok(()) => {}
-        Err(_) => unreachable(),
-    }
-}
-
-pub(crate) fn put_rank<I: ItemKind, S: Store<Item = I>>(store: &mut S, rank: u64, value: i64)
-    requires { 0 < size (S.Store.model store.old) }
-    ensures model { S.Store.model store.new ≡ with_rank I.ItemKind.blank (S.Store.model store.old) (rank % size (S.Store.model store.old)) value }
-    ensures lender { S.Store.lender store.new ≡ S.Store.lender store.old }
-{
-    let cell = cell_of(rank, store.cells());
-    match store.put_rank(cell, value) {
-        Ok(()) => {}
-        Err(_) => unreachable(),
-    }
-}
-
-pub(crate) fn put_gap<I: ItemKind, S: Store<Item = I>>(store: &mut S, rank: u64, value: i64)
-    requires { 0 < size (S.Store.model store.old) }
-    ensures model { S.Store.model store.new ≡ with_gap I.ItemKind.blank (S.Store.model store.old) (rank % size (S.Store.model store.old)) value }
-    ensures lender { S.Store.lender store.new ≡ S.Store.lender store.old }
-{
-    let cell = cell_of(rank, store.cells());
-    match store.put_gap(cell, value) {
-        Ok(()) => {}
-        Err(_) => unreachable(),
-    }
+    (rank % store.cells() as u64) as usize
 }

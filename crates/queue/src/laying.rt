@@ -46,10 +46,7 @@ pub fn lay_out<I: ItemKind, S: Store<Item = I>>(
     if count == 0 || count > MAX_WORKERS {
         return Err(QueueFault::WorkerCount(count));
     }
-    match store.clear(start) {
-        Ok(()) => {}
-        Err(_) => unreachable(),
-    }
+    store.clear(start).unwrap();
     *receiver = Receiver::at(start);
     make_idle(workers);
     log.clear();

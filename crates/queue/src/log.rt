@@ -1,98 +1,16 @@
 // The log of deliveries, in entries that the caller lends.
-ghost use Rattle.std.specs.Prelude.{◌≡◌, ◌+◌, ◌<◌, min, length, take, nat_le, slice_set};
-ghost use Rattle.std.specs.Option.{option_map};
-ghost use Rattle.protocol.specs.Rules.{emptied_log};
-ghost use Rattle.queue.specs.Logs.{log_view, log_lender, kept, first_under};
+ghost use Rattle.std.specs.Prelude.{◌≤◌, length};
 
 use protocol::Entry;
+
+mod calls;
+
+pub use calls::find;
 
 #[derive(Drop)]
 pub struct Log<'a, I> {
     entries: &'a mut [Entry<I>],
     // The first so many entries are kept; the others are room, or left from an earlier life.
     count: usize,
-}
-
-// The first entry under a rank.
-pub fn find<I>(entries: &[Entry<I>], rank: u64) -> Option<&Entry<I>>
-    ensures { option_map (λ x. x.now) result ≡ first_under rank entries.now }
-{
-    first_under(entries, rank)
-}
-
-fn first_under<I>(entries: &[Entry<I>], rank: u64) -> Option<&Entry<I>>
-    ensures { option_map (λ x. x.now) result ≡ first_under rank entries.now }
-{
-    for e in entries {
-        if e.rank == rank {
-            return Some(e);
-        }
-    }
-    None
-}
-
-// All of them where there are fewer than `count`.
-fn first_entries<I>(entries: &[Entry<I>], count: usize) -> &[Entry<I>]
-    ensures { result.now ≡ take count entries.now }
-{
-    let end = count.min(entries.len());
-    &entries[0..end]
-}
-
-fn put<I: Copy>(entries: &mut [Entry<I>], i: usize, entry: Entry<I>)
-    requires { i < length entries.old }
-    ensures { entries.new ≡ slice_set entries.old i entry }
-{
-    entries[i] = entry;
-}
-
-impl<'a, I: Copy> Log<'a, I> {
-    // An empty log over these entries, which stay as they are.
-    pub fn new(entries: &'a mut [Entry<I>]) -> Log<'a, I>
-        ensures entries { (log_view result).entries ≡ entries.old }
-        ensures count { (log_view result).count ≡ 0 }
-        ensures lent { log_lender result ≡ entries.entry.ghost_name }
-    {
-        Log { entries, count: 0 }
-    }
-
-    // How many entries are kept.
-    pub fn count(&self) -> usize
-        ensures value { result ≡ min (log_view self.now).count (length (log_view self.now).entries) }
-        ensures same { self.exit.now ≡ self.entry.now }
-    {
-        self.count.min(self.entries.len())
-    }
-
-    // The first of the kept entries under a rank.
-    pub fn entry(&self, rank: u64) -> Option<&Entry<I>>
-        ensures { option_map (λ x. x.now) result ≡ first_under rank (kept (log_view self.now)) }
-    {
-        find(first_entries(self.entries, self.count), rank)
-    }
-
-    pub(crate) fn is_full(&self) -> bool
-        ensures { result ≡ nat_le (length (log_view self.now).entries) (log_view self.now).count }
-    {
-        self.entries.len() <= self.count
-    }
-
-    pub(crate) fn append(&mut self, entry: Entry<I>)
-        requires { (log_view self.old).count < length (log_view self.old).entries }
-        ensures entries { (log_view self.new).entries ≡ slice_set (log_view self.old).entries (log_view self.old).count entry }
-        ensures count { (log_view self.new).count ≡ (log_view self.old).count + 1 }
-        ensures lent { log_lender self.new ≡ log_lender self.old }
-    {
-        let count = self.count;
-        put(self.entries, count, entry);
-        self.count = count + 1;
-    }
-
-    // Keeps no entry; the memory stays.
-    pub(crate) fn clear(&mut self)
-        ensures log { log_view self.new ≡ emptied_log (log_view self.old) }
-        ensures lent { log_lender self.new ≡ log_lender self.old }
-    {
-        self.count = 0;
-    }
+    ghost within: { count ≤ length entries.now },
 }

@@ -12,21 +12,21 @@ pub(crate) fn is_used(number: i64) -> bool
 pub(crate) fn is_rank(number: i64, rank: u64) -> bool
     ensures { result ≡ is_rank number rank }
 {
-    number >= 0 && number as u64 == rank
+    u64::try_from(number) == Ok(rank)
 }
 
 // A gap that is at least the rank.
 pub(crate) fn covers_rank(gap: i64, rank: u64) -> bool
     ensures { result ≡ covers gap rank }
 {
-    gap >= 0 && gap as u64 >= rank
+    u64::try_from(gap).is_ok_and(|gap| gap >= rank)
 }
 
 // An end mark that is set, and the rank is at least it.
 pub(crate) fn is_ended(mark: i64, rank: u64) -> bool
     ensures { result ≡ ended_by mark rank }
 {
-    mark >= 0 && mark as u64 <= rank
+    u64::try_from(mark).is_ok_and(|mark| mark <= rank)
 }
 
 // The end mark of an open queue: a mark below -1 is neither open nor an end.

@@ -1,5 +1,7 @@
 // Permits: who holds the free one may submit or close, who holds the full one has submitted an item and may step
 // the receiver or withdraw. A permit can't be dropped, and only this crate makes one.
+ghost use Rattle.std.specs.Prelude.{◌≡◌};
+
 use protocol::ReceiverPhase;
 
 pub struct FreePermit {
@@ -14,6 +16,15 @@ pub struct FullPermit {
 pub struct Refused<P, F> {
     pub permit: P,
     pub fault: F,
+}
+
+impl<P, F> Refused<P, F> {
+    pub(crate) fn new(permit: P, fault: F) -> Refused<P, F>
+        ensures permit { result.permit ≡ permit }
+        ensures fault { result.fault ≡ fault }
+    {
+        Refused { permit, fault }
+    }
 }
 
 impl FreePermit {

@@ -1,8 +1,6 @@
 // A worker's step.
-ghost use Rattle.std.specs.Prelude.{◌≡◌, ◌<◌, length, IfErr, OnErr, OnSome, slice_set};
-ghost use Rattle.std.specs.List.{slice_get};
+ghost use Rattle.std.specs.Prelude.{◌≡◌, ◌<◌, IfErr, OnErr};
 ghost use Rattle.stores.specs.Model.{size};
-ghost use Rattle.protocol.specs.Tests.{is_idle};
 ghost use Rattle.protocol.specs.Rules.{one_step, worker_step};
 ghost use Rattle.queue.specs.Faults.{queue_reason, Carries};
 ghost use Rattle.queue.specs.Logs.{log_view, log_lender};
@@ -36,34 +34,12 @@ pub fn worker_step<I: ItemKind, S: Store<Item = I>>(
     if store.cells() == 0 {
         return Err(QueueFault::NoCells);
     }
-    let Some(w) = worker_at(workers, k) else {
+    let Some(&w) = workers.get(k) else {
         return Err(QueueFault::NoSuchWorker(k));
     };
     let moved = one_step(store, log, k, w)?;
-    put_worker(workers, k, moved.worker);
+    workers[k] = moved.worker;
     Ok(moved.answer)
-}
-
-// The record of worker `k`, if there is one.
-fn worker_at<I: Copy>(workers: &[Worker<I>], k: usize) -> Option<Worker<I>>
-    ensures value { result ≡ slice_get workers.now k }
-    ensures within { OnSome result (k < length workers.now) }
-{
-    if k >= workers.len() {
-        return None;
-    }
-    Some(Worker {
-        phase: workers[k].phase,
-        rank: workers[k].rank,
-        copy: workers[k].copy,
-    })
-}
-
-fn put_worker<I: Copy>(workers: &mut [Worker<I>], k: usize, w: Worker<I>)
-    requires { k < length workers.old }
-    ensures { workers.new ≡ slice_set workers.old k w }
-{
-    workers[k] = w;
 }
 
 // One step of worker k, whose record is `w`.
@@ -82,17 +58,8 @@ fn one_step<I: ItemKind, S: Store<Item = I>>(
     ensures lender { S.Store.lender store.new ≡ S.Store.lender store.old }
     ensures lent { log_lender log.new ≡ log_lender log.old }
 {
-    if !is_idle(w.phase) && w.rank >= store.head() {
+    if w.phase != WorkerPhase::Idle && w.rank >= store.head() {
         return Err(QueueFault::RankOutOfRange(k));
     }
     step_in_phase(store, log, k, w)
-}
-
-fn is_idle(phase: WorkerPhase) -> bool
-    ensures { result ≡ is_idle phase }
-{
-    match phase {
-        WorkerPhase::Idle => true,
-        _ => false,
-    }
 }

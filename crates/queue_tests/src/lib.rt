@@ -6,6 +6,4 @@ mod finding;
 #[cfg(test)]
 mod life;
 #[cfg(test)]
-mod spare;
-#[cfg(test)]
 mod steps;

@@ -1,9 +1,8 @@
 // Short lives over both memories: their answers and their logs.
-use crate::spare::spend;
 use arrangements::{ArrangedStore, Turned};
 use blocks::BlockMemory;
 use items::{ItemKind, Notice, Reading};
-use lives::replay;
+use lives::Parts;
 use protocol::{
     Answer, Call, Entry, ReceiverAnswer, ReceiverPhase, Worker, WorkerAnswer, WorkerPhase,
 };
@@ -57,20 +56,18 @@ fn live<I: ItemKind, S: Store<Item = I>>(
 ) -> Option<usize> {
     let mut receiver = Receiver::new();
     let mut log = Log::new(entries);
-    match replay(store, &mut receiver, workers, &mut log, 0, calls, answers) {
+    let mut parts = Parts {
+        store,
+        receiver: &mut receiver,
+        workers,
+        log: &mut log,
+    };
+    match parts.replay(0, calls, answers) {
         Ok(held) => {
-            spend(held);
+            let _ = held.close_spare();
             Some(log.count())
         }
         Err(_) => None,
-    }
-}
-
-fn idle<I: ItemKind>() -> Worker<I> {
-    Worker {
-        phase: WorkerPhase::Idle,
-        rank: 0,
-        copy: I::blank(),
     }
 }
 
@@ -88,7 +85,7 @@ fn notices_over_turned_block_memory(rt: HostRuntime) {
     let mut store = ArrangedStore::new(BlockMemory::new(&mut bytes, 16), Turned);
     let mut answers = [Answer::NotMade; 9];
     let mut entries = [first(Notice::Nothing); 2];
-    let mut workers = [idle()];
+    let mut workers = [Worker::idle()];
     let count = live(
         &mut store,
         &mut workers,
@@ -113,7 +110,7 @@ fn readings_over_record_memory(rt: HostRuntime) {
     let mut store = RecordMemory::new(&mut cells);
     let mut answers = [Answer::NotMade; 9];
     let mut entries = [first(Reading::blank()); 2];
-    let mut workers = [idle()];
+    let mut workers = [Worker::idle()];
     let count = live(
         &mut store,
         &mut workers,
@@ -149,7 +146,7 @@ fn a_used_cell_is_skipped(rt: HostRuntime) {
     ];
     let mut answers = [Answer::NotMade; 14];
     let mut entries: [Entry<Reading>; 0] = [];
-    let mut workers = [idle()];
+    let mut workers = [Worker::idle()];
     let count = live(&mut store, &mut workers, &calls, &mut answers, &mut entries);
     assert_eq!(rt; count, Some(0));
     assert_eq!(rt;

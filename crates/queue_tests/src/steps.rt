@@ -1,5 +1,4 @@
 // Steps of a worker on records that are set up beforehand.
-use crate::spare::spend;
 use items::Reading;
 use lives::Held;
 use protocol::{Entry, Worker, WorkerAnswer, WorkerPhase};
@@ -11,12 +10,6 @@ const BLANK: Reading = Reading {
     probe: 0,
     sequence: 0,
     level: 0,
-};
-
-const CELL: Cell<Reading> = Cell {
-    item: BLANK,
-    rank: -1,
-    gap: -1,
 };
 
 const LAST: u64 = (1 << 40) - 1;
@@ -31,9 +24,9 @@ fn worker(phase: WorkerPhase, rank: u64) -> Worker<Reading> {
 
 #[test]
 fn the_last_rank_is_handed_out(rt: HostRuntime) -> Result<(), Fail> {
-    let mut cells = [CELL; 2];
+    let mut cells = [Cell::fresh(); 2];
     let mut store = RecordMemory::new(&mut cells);
-    let mut workers = [worker(WorkerPhase::Idle, 0); 2];
+    let mut workers = [Worker::idle(); 2];
     let mut entries: [Entry<Reading>; 0] = [];
     let mut log = Log::new(&mut entries);
     match lay_out(
@@ -43,7 +36,7 @@ fn the_last_rank_is_handed_out(rt: HostRuntime) -> Result<(), Fail> {
         &mut log,
         LAST,
     ) {
-        Ok(permit) => spend(Held::Free(permit)),
+        Ok(permit) => assert_eq!(rt; Held::Free(permit).close_spare(), Some(0)),
         Err(_) => return Err(Fail::new("not laid out")),
     }
     assert_eq!(rt;
@@ -63,7 +56,7 @@ fn the_last_rank_is_handed_out(rt: HostRuntime) -> Result<(), Fail> {
 
 // A worker that doubts whether rank 2 stands in its cell, whose gap is this one.
 fn doubt(gap: i64) -> Result<WorkerAnswer<Reading>, QueueFault<StoreFault>> {
-    let mut cells = [CELL; 2];
+    let mut cells = [Cell::fresh(); 2];
     let mut store = RecordMemory::new(&mut cells);
     for _ in 0..3 {
         let _ = store.next_rank();
@@ -85,7 +78,7 @@ fn a_gap_that_reaches_the_rank_marks_it(rt: HostRuntime) {
 // The log finds what is delivered, and not what an earlier life left after it.
 #[test]
 fn a_delivery_is_found_in_the_log(rt: HostRuntime) {
-    let mut cells = [CELL; 2];
+    let mut cells = [Cell::fresh(); 2];
     let mut store = RecordMemory::new(&mut cells);
     assert_eq!(rt; store.next_rank(), Ok(0));
     let mut workers = [worker(WorkerPhase::Copied, 0)];

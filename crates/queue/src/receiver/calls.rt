@@ -47,22 +47,13 @@ impl<I: ItemKind> Receiver<I> {
         ensures refused { OnErr result (self.new ≡ self.old) }
     {
         if store.cells() == 0 {
-            return Err(Refused {
-                permit,
-                fault: QueueFault::NoCells,
-            });
+            return Err(Refused::new(permit, QueueFault::NoCells));
         }
         if numbers::is_used(store.end_mark()) {
-            return Err(Refused {
-                permit,
-                fault: QueueFault::Closed,
-            });
+            return Err(Refused::new(permit, QueueFault::Closed));
         }
-        if let Some(_) = self.hand {
-            return Err(Refused {
-                permit,
-                fault: QueueFault::HandFull,
-            });
+        if self.hand.is_some() {
+            return Err(Refused::new(permit, QueueFault::HandFull));
         }
         self.hand = Some(item);
         self.phase = ReceiverPhase::Probing;
@@ -74,8 +65,7 @@ impl<I: ItemKind> Receiver<I> {
         ensures answer { result.0 ≡ (receiver_view self.old).hand }
         ensures receiver { receiver_view self.new ≡ emptied (receiver_view self.old) }
     {
-        let item = self.hand;
-        self.hand = None;
+        let item = self.hand.take();
         self.phase = ReceiverPhase::Probing;
         (item, permit.empty())
     }
@@ -94,16 +84,10 @@ impl<I: ItemKind> Receiver<I> {
         ensures lender { S.Store.lender store.new ≡ S.Store.lender store.old }
     {
         if store.cells() == 0 {
-            return Err(Refused {
-                permit,
-                fault: QueueFault::NoCells,
-            });
+            return Err(Refused::new(permit, QueueFault::NoCells));
         }
-        if let Some(_) = self.hand {
-            return Err(Refused {
-                permit,
-                fault: QueueFault::HandFull,
-            });
+        if self.hand.is_some() {
+            return Err(Refused::new(permit, QueueFault::HandFull));
         }
         permit.spend();
         let mark = store.end_mark();
@@ -111,9 +95,7 @@ impl<I: ItemKind> Receiver<I> {
             return Ok(mark);
         }
         let mark = self.tail as i64;
-        match store.set_end(mark) {
-            Ok(()) => Ok(mark),
-            Err(_) => unreachable(),
-        }
+        store.set_end(mark).unwrap();
+        Ok(mark)
     }
 }

@@ -6,10 +6,11 @@ ghost use Rattle.queue.specs.Faults.{queue_reason, Own};
 ghost use Rattle.queue.specs.Receivers.{receiver_view, step_said, step_answer};
 ghost use Rattle.stores.specs.Model.{size};
 
+use crate::cells::cell_of;
 use crate::fault::QueueFault;
+use crate::numbers;
 use crate::permit::{FullPermit, ReceiverStep, Refused};
 use crate::receiver::Receiver;
-use crate::{cells, numbers};
 use items::ItemKind;
 use protocol::ReceiverPhase;
 use stores::Store;
@@ -32,34 +33,11 @@ impl<I: ItemKind> Receiver<I> {
         ensures lender { S.Store.lender store.new ≡ S.Store.lender store.old }
     {
         if store.cells() == 0 {
-            return Err(Refused {
-                permit,
-                fault: QueueFault::NoCells,
-            });
+            return Err(Refused::new(permit, QueueFault::NoCells));
         }
         let Some(item) = self.hand else {
-            return Err(Refused {
-                permit,
-                fault: QueueFault::HandEmpty,
-            });
+            return Err(Refused::new(permit, QueueFault::HandEmpty));
         };
-        self.step_with(store, permit, item)
-    }
-
-    fn step_with<S: Store<Item = I>>(
-        &mut self,
-        store: &mut S,
-        permit: FullPermit,
-        item: I,
-    ) -> Result<ReceiverStep, Refused<FullPermit, QueueFault<S::Fault>>>
-        requires { 0 < size (S.Store.model store.old) }
-        ensures answer { step_answer (queue_reason S.Fault.Refusal.reason) result ≡ (step_in I.ItemKind.blank (receiver_view self.old) (S.Store.model store.old) (receiver_view self.old).phase item).answer }
-        ensures own { IfErr result (λ e. Own e.fault) }
-        ensures receiver { receiver_view self.new ≡ (step_in I.ItemKind.blank (receiver_view self.old) (S.Store.model store.old) (receiver_view self.old).phase item).receiver }
-        ensures model { S.Store.model store.new ≡ (step_in I.ItemKind.blank (receiver_view self.old) (S.Store.model store.old) (receiver_view self.old).phase item).store }
-        ensures refused { OnErr result ((store.new ≡ store.old) × (self.new ≡ self.old)) }
-        ensures lender { S.Store.lender store.new ≡ S.Store.lender store.old }
-    {
         match self.phase {
             ReceiverPhase::Probing => self.probe(store, permit),
             ReceiverPhase::Busy => Ok(self.skip(store, permit)),
@@ -83,12 +61,10 @@ impl<I: ItemKind> Receiver<I> {
     {
         let tail = self.tail;
         if tail >= LIMIT {
-            return Err(Refused {
-                permit,
-                fault: QueueFault::TailAtLimit,
-            });
+            return Err(Refused::new(permit, QueueFault::TailAtLimit));
         }
-        let phase = if numbers::is_used(cells::rank_in(store, tail)) {
+        let stored = store.rank(cell_of(store, tail)).unwrap();
+        let phase = if numbers::is_used(stored) {
             ReceiverPhase::Busy
         } else {
             ReceiverPhase::Found
@@ -107,7 +83,8 @@ impl<I: ItemKind> Receiver<I> {
         ensures lender { S.Store.lender store.new ≡ S.Store.lender store.old }
     {
         let tail = self.tail;
-        cells::put_gap(store, tail, tail as i64);
+        let cell = cell_of(store, tail);
+        store.put_gap(cell, tail as i64).unwrap();
         self.tail = tail + 1;
         self.phase = ReceiverPhase::Probing;
         ReceiverStep::Skipped(permit, tail)
@@ -128,7 +105,8 @@ impl<I: ItemKind> Receiver<I> {
         ensures lender { S.Store.lender store.new ≡ S.Store.lender store.old }
     {
         let tail = self.tail;
-        cells::put_item(store, tail, item);
+        let cell = cell_of(store, tail);
+        store.put_item(cell, item).unwrap();
         self.phase = ReceiverPhase::Filled;
         ReceiverStep::Stepped(permit, ReceiverPhase::Filled, tail)
     }
@@ -143,7 +121,8 @@ impl<I: ItemKind> Receiver<I> {
         ensures lender { S.Store.lender store.new ≡ S.Store.lender store.old }
     {
         let tail = self.tail;
-        cells::put_rank(store, tail, tail as i64);
+        let cell = cell_of(store, tail);
+        store.put_rank(cell, tail as i64).unwrap();
         self.tail = tail + 1;
         self.phase = ReceiverPhase::Probing;
         self.hand = None;

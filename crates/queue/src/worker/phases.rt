@@ -1,17 +1,18 @@
 // A worker's step, by its phase.
-ghost use Rattle.std.specs.Prelude.{◌≡◌, ℕ, ◌+◌, ◌<◌, ◌≤◌, IfErr, Ok, MatchResult, OnErr};
+ghost use Rattle.std.specs.Prelude.{◌≡◌, ℕ, ◌<◌, IfErr, Ok, OnErr};
 ghost use Rattle.protocol.specs.Records.{Log as LogRecord};
-ghost use Rattle.protocol.specs.Rules.{refusal, work_in};
-ghost use Rattle.protocol.specs.Tests.{limit};
-ghost use Rattle.protocol.specs.declared.record.WorkerPhase.TheVariants.{Idle, Seeking, Doubting, Marked, Passed, Sure, Copied};
+ghost use Rattle.protocol.specs.Rules.{takes, looks, work_in};
+ghost use Rattle.protocol.specs.declared.answer.WorkerAnswer.{WorkerAnswer as AnswerOf};
+ghost use Rattle.protocol.specs.declared.record.WorkerPhase.TheVariants.{Seeking, Doubting, Sure, Copied};
 ghost use Rattle.queue.specs.Faults.{queue_reason, Carries};
 ghost use Rattle.queue.specs.Logs.{log_view, log_lender};
 ghost use Rattle.queue.specs.Workers.{moved_view, moved_answer};
-ghost use Rattle.stores.specs.Model.{size, with_head};
+ghost use Rattle.stores.specs.Model.{size};
 
+use crate::cells::cell_of;
 use crate::fault::QueueFault;
 use crate::log::Log;
-use crate::{cells, numbers};
+use crate::numbers;
 use items::ItemKind;
 use protocol::{Entry, Worker, WorkerAnswer, WorkerPhase};
 use stores::Store;
@@ -42,29 +43,17 @@ fn to_phase<I: Copy>(w: Worker<I>, phase: WorkerPhase) -> Moved<I>
     in_phase(w, phase, WorkerAnswer::Stepped(phase, w.rank))
 }
 
-// The next rank. The store's refusal, if all are handed out, is carried whole.
-fn next_rank<S: Store>(store: &mut S) -> Result<u64, QueueFault<S::Fault>>
-    requires { 0 < size (S.Store.model store.old) }
-    ensures answer { MatchResult result (λ v. (v ≡ (S.Store.model store.old).head) × (v < limit)) (λ f. (limit ≤ (S.Store.model store.old).head) × (queue_reason S.Fault.Refusal.reason f ≡ refusal 6 0)) }
-    ensures carries { IfErr result (Carries S.Fault.Refusal.reason S.Fault.Refusal.layer) }
-    ensures model { MatchResult result (λ v. S.Store.model store.new ≡ with_head (S.Store.model store.old) (v + 1)) (λ _. store.new ≡ store.old) }
-    ensures lender { S.Store.lender store.new ≡ S.Store.lender store.old }
-{
-    match store.next_rank() {
-        Ok(rank) => Ok(rank),
-        Err(fault) => Err(QueueFault::Below(fault)),
-    }
-}
-
-// Idle: takes a rank, unless the queue is over.
-fn claim<I: ItemKind, S: Store<Item = I>>(
+// Idle or passed: takes the next rank, unless the queue is over. The store's refusal is carried whole.
+fn take_next<I: ItemKind, S: Store<Item = I>, A: FnOnce(Worker<I>) -> WorkerAnswer<I>>(
     store: &mut S,
     w: Worker<I>,
+    answer: A,
 ) -> Result<Moved<I>, QueueFault<S::Fault>>
-    requires { 0 < size (S.Store.model store.old) }
-    ensures answer { (k : ℕ) (l : LogRecord I) → moved_answer (queue_reason S.Fault.Refusal.reason) result ≡ (work_in I.ItemKind.blank k w (S.Store.model store.old) l Idle).answer }
+    requires cells { 0 < size (S.Store.model store.old) }
+    requires answers { A.IsAlwaysCallable answer }
+    ensures answer { (k : ℕ) (l : LogRecord I) (a : ℕ → AnswerOf I) → ((r : ℕ) (v : AnswerOf I) → A.post answer (record { phase = Seeking; rank = r; copy = w.copy }) v → v ≡ a r) → moved_answer (queue_reason S.Fault.Refusal.reason) result ≡ (takes I.ItemKind.blank k w (S.Store.model store.old) l a).answer }
     ensures carries { IfErr result (Carries S.Fault.Refusal.reason S.Fault.Refusal.layer) }
-    ensures model { (k : ℕ) (l : LogRecord I) → S.Store.model store.new ≡ (work_in I.ItemKind.blank k w (S.Store.model store.old) l Idle).store }
+    ensures model { (k : ℕ) (l : LogRecord I) (a : ℕ → AnswerOf I) → S.Store.model store.new ≡ (takes I.ItemKind.blank k w (S.Store.model store.old) l a).store }
     ensures refused { OnErr result (store.new ≡ store.old) }
     ensures lender { S.Store.lender store.new ≡ S.Store.lender store.old }
 {
@@ -72,23 +61,29 @@ fn claim<I: ItemKind, S: Store<Item = I>>(
     if numbers::is_ended(mark, store.head()) {
         return Ok(in_phase(w, WorkerPhase::Idle, WorkerAnswer::Over(mark)));
     }
-    let rank = next_rank(store)?;
-    Ok(in_phase(
-        Worker { rank, ..w },
-        WorkerPhase::Seeking,
-        WorkerAnswer::Claimed(rank),
-    ))
+    let rank = store.next_rank().map_err(QueueFault::Below)?;
+    let worker = Worker {
+        phase: WorkerPhase::Seeking,
+        rank,
+        ..w
+    };
+    Ok(Moved {
+        answer: answer(worker),
+        worker,
+    })
 }
 
-// Seeking: looks whether the own rank stands in its cell.
-fn seek<I: ItemKind, S: Store<Item = I>>(store: &S, w: Worker<I>) -> Moved<I>
+// Seeking or marked: looks whether the own rank stands in its cell. A marked worker looks once more, since the rank
+// may have been put before the gap.
+fn look<I: ItemKind, S: Store<Item = I>>(store: &S, w: Worker<I>, absent: WorkerPhase) -> Moved<I>
     requires { 0 < size (S.Store.model store.now) }
-    ensures answer { (k : ℕ) (l : LogRecord I) → Ok (moved_view result) ≡ (work_in I.ItemKind.blank k w (S.Store.model store.now) l Seeking).answer }
+    ensures answer { (k : ℕ) (l : LogRecord I) → Ok (moved_view result) ≡ (looks I.ItemKind.blank k w (S.Store.model store.now) l absent).answer }
 {
-    if numbers::is_rank(cells::rank_in(store, w.rank), w.rank) {
+    let stored = store.rank(cell_of(store, w.rank)).unwrap();
+    if numbers::is_rank(stored, w.rank) {
         to_phase(w, WorkerPhase::Sure)
     } else {
-        to_phase(w, WorkerPhase::Doubting)
+        to_phase(w, absent)
     }
 }
 
@@ -97,7 +92,8 @@ fn doubt<I: ItemKind, S: Store<Item = I>>(store: &S, w: Worker<I>) -> Moved<I>
     requires { 0 < size (S.Store.model store.now) }
     ensures answer { (k : ℕ) (l : LogRecord I) → Ok (moved_view result) ≡ (work_in I.ItemKind.blank k w (S.Store.model store.now) l Doubting).answer }
 {
-    if numbers::covers_rank(cells::gap_in(store, w.rank), w.rank) {
+    let gap = store.gap(cell_of(store, w.rank)).unwrap();
+    if numbers::covers_rank(gap, w.rank) {
         to_phase(w, WorkerPhase::Marked)
     } else if numbers::is_ended(store.end_mark(), w.rank) {
         in_phase(w, WorkerPhase::Idle, WorkerAnswer::GivenUp(w.rank))
@@ -106,48 +102,12 @@ fn doubt<I: ItemKind, S: Store<Item = I>>(store: &S, w: Worker<I>) -> Moved<I>
     }
 }
 
-// Marked: looks once more, since the rank may have been put before the gap.
-fn recheck<I: ItemKind, S: Store<Item = I>>(store: &S, w: Worker<I>) -> Moved<I>
-    requires { 0 < size (S.Store.model store.now) }
-    ensures answer { (k : ℕ) (l : LogRecord I) → Ok (moved_view result) ≡ (work_in I.ItemKind.blank k w (S.Store.model store.now) l Marked).answer }
-{
-    if numbers::is_rank(cells::rank_in(store, w.rank), w.rank) {
-        to_phase(w, WorkerPhase::Sure)
-    } else {
-        to_phase(w, WorkerPhase::Passed)
-    }
-}
-
-// Passed: takes another rank, unless the queue is over.
-fn move_on<I: ItemKind, S: Store<Item = I>>(
-    store: &mut S,
-    w: Worker<I>,
-) -> Result<Moved<I>, QueueFault<S::Fault>>
-    requires { 0 < size (S.Store.model store.old) }
-    ensures answer { (k : ℕ) (l : LogRecord I) → moved_answer (queue_reason S.Fault.Refusal.reason) result ≡ (work_in I.ItemKind.blank k w (S.Store.model store.old) l Passed).answer }
-    ensures carries { IfErr result (Carries S.Fault.Refusal.reason S.Fault.Refusal.layer) }
-    ensures model { (k : ℕ) (l : LogRecord I) → S.Store.model store.new ≡ (work_in I.ItemKind.blank k w (S.Store.model store.old) l Passed).store }
-    ensures refused { OnErr result (store.new ≡ store.old) }
-    ensures lender { S.Store.lender store.new ≡ S.Store.lender store.old }
-{
-    let mark = store.end_mark();
-    if numbers::is_ended(mark, store.head()) {
-        return Ok(in_phase(w, WorkerPhase::Idle, WorkerAnswer::Over(mark)));
-    }
-    let rank = next_rank(store)?;
-    Ok(in_phase(
-        Worker { rank, ..w },
-        WorkerPhase::Seeking,
-        WorkerAnswer::MovedOn(rank),
-    ))
-}
-
 // Sure: copies the item of the own cell.
 fn copy_item<I: ItemKind, S: Store<Item = I>>(store: &S, w: Worker<I>) -> Moved<I>
     requires { 0 < size (S.Store.model store.now) }
     ensures answer { (k : ℕ) (l : LogRecord I) → Ok (moved_view result) ≡ (work_in I.ItemKind.blank k w (S.Store.model store.now) l Sure).answer }
 {
-    let copy = cells::item_in(store, w.rank);
+    let copy = store.item(cell_of(store, w.rank)).unwrap();
     to_phase(Worker { copy, ..w }, WorkerPhase::Copied)
 }
 
@@ -170,7 +130,8 @@ fn deliver<I: ItemKind, S: Store<Item = I>>(
     if log.is_full() {
         return Err(QueueFault::LogFull(k));
     }
-    cells::put_rank(store, w.rank, -1);
+    let cell = cell_of(store, w.rank);
+    store.put_rank(cell, -1).unwrap();
     log.append(Entry {
         rank: w.rank,
         worker: k,
@@ -199,11 +160,11 @@ pub(crate) fn step_in_phase<I: ItemKind, S: Store<Item = I>>(
     ensures lent { log_lender log.new ≡ log_lender log.old }
 {
     match w.phase {
-        WorkerPhase::Idle => claim(store, w),
-        WorkerPhase::Seeking => Ok(seek(store, w)),
+        WorkerPhase::Idle => take_next(store, w, |w| WorkerAnswer::Claimed(w.rank)),
+        WorkerPhase::Seeking => Ok(look(store, w, WorkerPhase::Doubting)),
         WorkerPhase::Doubting => Ok(doubt(store, w)),
-        WorkerPhase::Marked => Ok(recheck(store, w)),
-        WorkerPhase::Passed => move_on(store, w),
+        WorkerPhase::Marked => Ok(look(store, w, WorkerPhase::Passed)),
+        WorkerPhase::Passed => take_next(store, w, |w| WorkerAnswer::MovedOn(w.rank)),
         WorkerPhase::Sure => Ok(copy_item(store, w)),
         WorkerPhase::Copied => deliver(store, log, k, w),
     }
