@@ -12,11 +12,10 @@ use crate::permit::FreePermit;
 use crate::receiver::Receiver;
 use items::ItemKind;
 use protocol::{Worker, WorkerPhase};
-use stores::Store;
+use stores::{MAX_HEAD, Store};
 
-const MAX_START: u64 = (1 << 40) - 1;
-
-const MAX_WORKERS: usize = 64;
+// A worker table has no more records.
+pub const MAX_WORKERS: usize = 64;
 
 // Clears the store at `start`, empties the receiver's hand and the log, and makes every worker idle.
 pub fn lay_out<I: ItemKind, S: Store<Item = I>>(
@@ -39,7 +38,7 @@ pub fn lay_out<I: ItemKind, S: Store<Item = I>>(
     if store.cells() == 0 {
         return Err(QueueFault::NoCells);
     }
-    if start > MAX_START {
+    if start >= MAX_HEAD {
         return Err(QueueFault::StartTooHigh);
     }
     let count = workers.len();

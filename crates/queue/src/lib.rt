@@ -11,7 +11,7 @@ mod receiver;
 mod worker;
 
 pub use fault::QueueFault;
-pub use laying::lay_out;
+pub use laying::{MAX_WORKERS, lay_out};
 pub use log::{Log, find};
 pub use permit::{FreePermit, FullPermit, ReceiverStep, Refused};
 pub use receiver::Receiver;

@@ -1,5 +1,5 @@
 -- The answer of a drain from where it ended.
-use Rattle.std.proofs.Common.{◌≡◌, ℕ, Bool, List, IfErr, Ok, Err, Option, Result, sym, ap, subst}
+use Rattle.std.proofs.Common.{◌≡◌, ℕ, Bool, List, Option, Result, sym, ap, subst}
 use Rattle.stores.specs.declared.refusal.Layer.{Layer}
 use Rattle.stores.specs.Refusals.{Reason}
 use Rattle.stores.specs.Model.{Contents}
@@ -61,7 +61,3 @@ no_check reason layer (WorkerCount n) o c = o
 no_check reason layer StillOpen o c = o
 no_check reason layer (NoItemLeft turn) o c = o
 no_check reason layer (Below f) o c = c
-
-pub cases_weaker : {V E : Type 0} (r : Result V E) (P Q : E → Type 0) → ((e : E) → P e → Q e) → IfErr r P → IfErr r Q
-cases_weaker (Ok v) P Q f h = tt
-cases_weaker (Err e) P Q f h = f e h

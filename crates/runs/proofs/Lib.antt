@@ -1,3 +1,3 @@
 pub mod DrainAnswers
 pub mod Turns
-pub mod Performed
+pub mod Beginning

@@ -11,13 +11,11 @@ ghost use Rattle.runs.specs.Drains.{steps_of, outcome_of, OfChecks, DrainedAs};
 use crate::fault::RunFault;
 use items::ItemKind;
 use protocol::{Worker, WorkerAnswer};
-use queue::{Log, QueueFault, worker_step};
+use queue::{Log, MAX_WORKERS, QueueFault, worker_step};
 use stores::Store;
 
 // A larger budget is cut to this one, which is enough for every queue.
 const MAX_BUDGET: u64 = 1 << 43;
-
-const MAX_WORKERS: usize = 64;
 
 // So many steps were made; an unfinished drain has used its budget up.
 #[derive(Clone, Copy, PartialEq, Eq, Debug)]
@@ -108,6 +106,7 @@ fn checked<I: ItemKind, S: Store<Item = I>>(
     ensures drained { DrainedAs (queue_reason S.Fault.Refusal.reason) (drained I.ItemKind.blank budget workers.old (S.Store.model store.old) (log_view log.old)) result workers.new (S.Store.model store.new) (log_view log.new) }
     ensures fault { IfErr result (λ e. DrainFault S.Fault.Refusal.reason S.Fault.Refusal.layer e.fault) }
     ensures refused { IfErr result (λ e. OfChecks e.fault → (store.new ≡ store.old) × (workers.new ≡ workers.old) × (log.new ≡ log.old)) }
+    ensures in_time { DrainedInTime I.ItemKind.blank budget workers.old (S.Store.model store.old) (log_view log.old) (steps_of result) (outcome_of (queue_reason S.Fault.Refusal.reason) result) }
     ensures lender { S.Store.lender store.new ≡ S.Store.lender store.old }
     ensures lent { log_lender log.new ≡ log_lender log.old }
 {
@@ -115,22 +114,6 @@ fn checked<I: ItemKind, S: Store<Item = I>>(
         Ok(()) => step_each(store, workers, log, budget.min(MAX_BUDGET)),
         Err(fault) => Err(DrainStop { steps: 0, fault }),
     }
-}
-
-fn bounded<I: ItemKind, S: Store<Item = I>>(
-    store: &mut S,
-    workers: &mut [Worker<I>],
-    log: &mut Log<'_, I>,
-    budget: u64,
-) -> Result<Drained, DrainStop<RunFault<QueueFault<S::Fault>>>>
-    ensures drained { DrainedAs (queue_reason S.Fault.Refusal.reason) (drained I.ItemKind.blank budget workers.old (S.Store.model store.old) (log_view log.old)) result workers.new (S.Store.model store.new) (log_view log.new) }
-    ensures fault { IfErr result (λ e. DrainFault S.Fault.Refusal.reason S.Fault.Refusal.layer e.fault) }
-    ensures refused { IfErr result (λ e. OfChecks e.fault → (store.new ≡ store.old) × (workers.new ≡ workers.old) × (log.new ≡ log.old)) }
-    ensures in_time { DrainedInTime I.ItemKind.blank budget workers.old (S.Store.model store.old) (log_view log.old) (steps_of result) (outcome_of (queue_reason S.Fault.Refusal.reason) result) }
-    ensures lender { S.Store.lender store.new ≡ S.Store.lender store.old }
-    ensures lent { log_lender log.new ≡ log_lender log.old }
-{
-    checked(store, workers, log, budget)
 }
 
 // Steps worker 0 until it is told over, then worker 1, and so on, for as many steps as the budget allows.
@@ -147,5 +130,5 @@ pub fn drain<I: ItemKind, S: Store<Item = I>>(
     ensures lender { S.Store.lender store.new ≡ S.Store.lender store.old }
     ensures lent { log_lender log.new ≡ log_lender log.old }
 {
-    bounded(store, workers, log, budget)
+    checked(store, workers, log, budget)
 }

@@ -161,7 +161,10 @@ fn take_turns<I: ItemKind, S: Store<Item = I>>(
 }
 
 // Withdraws what is in hand, and closes. The queue has cells and then an empty hand, so the close is not refused.
-fn finish<I: ItemKind, S: Store<Item = I>>(parts: &mut Parts<'_, '_, '_, '_, '_, I, S>, held: Held) -> i64
+fn finish<I: ItemKind, S: Store<Item = I>>(
+    parts: &mut Parts<'_, '_, '_, '_, '_, I, S>,
+    held: Held,
+) -> i64
     requires cells { 0 < size (S.Store.model parts.old.store.now) }
     requires hand { HandFits (permit_of held) (receiver_view parts.old.receiver.now).hand }
     ensures end { result ≡ closed_at (receiver_view parts.old.receiver.now) (S.Store.model parts.old.store.now) }

@@ -1,9 +1,8 @@
 -- A rehearsal is a life, and its hand is full just while its permit is.
-use Rattle.std.proofs.Common.{◌≡◌, ℕ, zero, suc, ◌+◌, ◌<◌, ◌≤◌, Bool, true, false, cond, eqb, leb, List, [], ◌∷◌, ◌++◌, length, get_or, drop, Some, None, Ok, Err, Option, Result, sym, refl, ap, ◌∙◌, subst, arith}
+use Rattle.std.proofs.Common.{◌≡◌, ℕ, zero, suc, ◌+◌, ◌<◌, ◌≤◌, Bool, true, false, cond, eqb, leb, List, [], ◌∷◌, ◌++◌, length, get_or, drop, Some, None, Ok, Err, Option, Result, sym, refl, ap, ◌∙◌, subst}
 use Rattle.std.proofs.lemmas.List.{drop_more, drop_all}
-use Rattle.std.proofs.lemmas.Bool.{ne_eqb}
 use Rattle.stores.specs.Refusals.{Reason}
-use Rattle.stores.specs.Model.{Contents, size, cell_of, with_end}
+use Rattle.stores.specs.Model.{size, cell_of}
 use Rattle.protocol.specs.declared.record.ReceiverPhase.{ReceiverPhase}
 use Rattle.protocol.specs.declared.record.ReceiverPhase.TheVariants.{Probing, Busy, Found, Filled}
 use Rattle.protocol.specs.declared.answer.Call.{Call}
@@ -12,12 +11,10 @@ use Rattle.protocol.specs.declared.answer.Answer.{Answer}
 use Rattle.protocol.specs.declared.answer.Answer.TheVariants.{NotMade, Refused, Submitted, Withdrew, Received, Worked, Closed}
 use Rattle.protocol.specs.declared.answer.WorkerAnswer.{WorkerAnswer}
 use Rattle.protocol.specs.Tests.{limit, used}
-use Rattle.protocol.specs.declared.record.Worker.{Worker}
-use Rattle.protocol.specs.Records.{Receiver, Log}
 use Rattle.protocol.specs.Rules as rules
 use Rattle.protocol.specs.Rules.{refusal, hand_full, no_submit, no_step, emptied, closed_at, step_in, step_with, receiver_step, worker_step}
 use Rattle.protocol.specs.State.{Permit, free, full, spent}
-use Rattle.protocol.specs.Lives.{Queue, queue_of, Made, make, after, submitting, receiving, working, closing, with_free, with_full}
+use Rattle.protocol.specs.Lives.{Queue, Made, make, after, submitting, receiving, working, with_free, with_full}
 use Rattle.protocol.proofs.Tables.{none_some, some_eq}
 use Rattle.schedules.specs.Hands.{HandFits, receiver_call_by, party_call}
 use Rattle.schedules.specs.Rehearsals.{Ended, receiver_call, turn_call, items_after, by_answer, by_call, take_turns, calls_by_answer, calls_by_call, turn_calls, last_calls, rehearsed, rehearsal_calls}
@@ -155,18 +152,3 @@ module _ {X : Type 0} (blank : X) where
   pub party_is_turn : (q : Queue X) (items : List X) (party : ℕ) → Fits q → party_call q.permit items party ≡ turn_call q items party
   party_is_turn q items zero f = by_permit q.permit q.receiver.hand items f
   party_is_turn q items (suc k) f = refl
-
-  -- ---- the end of a rehearsal
-
-  closes_at_tail : (m : Contents X) (r : Receiver X) (ws : List (Worker X)) (l : Log X) → 0 < size m → r.hand ≡ None →
-      (make blank (queue_of m r ws l free) Close).queue ≡ queue_of (with_end m (closed_at r m)) r ws l spent
-  closes_at_tail m r ws l some empty =
-      let a : eqb (size m) 0 ≡ false = ne_eqb (size m) 0 (λ z. omega arith) in
-      λ i. (closing (queue_of m r ws l free) (cond (a i) (Some (refusal 1 0)) (hand_full (empty i)))).queue
-
-  -- what the last two calls leave: the end mark is set, and nothing else but the hand and the permit changes
-  pub ends_closed : (m : Contents X) (r : Receiver X) (ws : List (Worker X)) (l : Log X) (p : Permit) → 0 < size m → HandFits p r.hand →
-      (r' : Receiver X) × (after blank (queue_of m r ws l p) last_calls ≡ queue_of (with_end m (closed_at r m)) r' ws l spent)
-  ends_closed m r ws l free some f = (r, closes_at_tail m r ws l some f)
-  ends_closed m r ws l full some f = (emptied r, closes_at_tail m (emptied r) ws l some refl)
-  ends_closed m r ws l spent some f = absurd f

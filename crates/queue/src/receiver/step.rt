@@ -13,10 +13,7 @@ use crate::permit::{FullPermit, ReceiverStep, Refused};
 use crate::receiver::Receiver;
 use items::ItemKind;
 use protocol::ReceiverPhase;
-use stores::Store;
-
-// No rank is announced or skipped from here on.
-const LIMIT: u64 = 1 << 40;
+use stores::{MAX_HEAD, Store};
 
 impl<I: ItemKind> Receiver<I> {
     // One step with the item in hand, by the phase.
@@ -60,7 +57,8 @@ impl<I: ItemKind> Receiver<I> {
         ensures refused { OnErr result (self.new ≡ self.old) }
     {
         let tail = self.tail;
-        if tail >= LIMIT {
+        // No rank is announced or skipped from here on.
+        if tail >= MAX_HEAD {
             return Err(Refused::new(permit, QueueFault::TailAtLimit));
         }
         let stored = store.rank(cell_of(store, tail)).unwrap();

@@ -2,7 +2,7 @@ use Rattle.std.proofs.Common.{rules}
 use Rattle.queue.specs.Faults.{queue_reason}
 use Rattle.queue.specs.Logs.{log_view}
 use Rattle.queue.specs.Receivers.{receiver_view}
-use Rattle.runs.proofs.Performed.{accepted, rehearsal_life, from_laid, left_there}
+use Rattle.runs.proofs.Beginning.{accepted, rehearsal_life, from_laid, left_there}
 use Rattle.runs.proofs.rehearsing.laid_out.Goals as goal
 
 pub returns-clause-rehearses : goal.returns-clause-rehearses
