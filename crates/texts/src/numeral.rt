@@ -8,7 +8,7 @@ const LIMIT: u64 = 1 << 40;
 fn has_leading_zero(digits: &[u8]) -> bool
     ensures { Decides result ((1 < length digits.now) × (slice_index digits.now 0 ≡ 48)) }
 {
-    digits.len() > 1 && digits[0] == b'0'
+    matches!(digits, [b'0', _, ..])
 }
 
 // None if there are no digits, or a leading zero, or the number is too large.

@@ -26,16 +26,16 @@ returns-then-eat-2 c =
     subst (λ (l : Lexer). LinePassed l (vec_items c.push.new.self) new) c.if-eat.ensures.same
     (subst (λ l. LinePassed c.eat.new.self l new) (sym pushed) done)
 
-pub returns-then-not-eat : goal.returns-then-not-eat
-returns-then-not-eat c =
+pub returns-then-not-space : goal.returns-then-not-space
+returns-then-not-space c =
     subst (λ (l : Lexer). NoLine (left l)) c.if-eat.ensures.same
-    (line_broken c.loop-word.invariant c.in-Some.ensures c.if-eat-2.ensures c.if-not-eat.ensures)
+    (line_broken c.loop-word.invariant c.in-Some.ensures c.if-eat-2.ensures c.if-not-space.ensures)
 
 pub loop-word-smaller : goal.loop-word-smaller
-loop-word-smaller c = less_left c.loop-word.invariant c.in-Some.ensures c.if-eat-2.ensures c.if-not-eat.ensures
+loop-word-smaller c = less_left c.loop-word.invariant c.in-Some.ensures c.if-eat-2.ensures c.if-not-space.ensures
 
 pub loop-word-preserved : goal.loop-word-preserved
 loop-word-preserved c =
     let pushed = chosen _ _ _ _ c.push.ensures.items (ap is_ok c.in_ok-push.was) in
-    subst (Reading c.eat.new.self c.eat-in-loop-word-2.new.self) (sym pushed)
-    (line_more c.loop-word.invariant c.in-Some.ensures c.if-eat-2.ensures c.if-not-eat.ensures)
+    subst (Reading c.eat.new.self c.space.new.self) (sym pushed)
+    (line_more c.loop-word.invariant c.in-Some.ensures c.if-eat-2.ensures c.if-not-space.ensures)
