@@ -7,9 +7,9 @@ use std::io::Write;
 
 fn main(rt: HostRuntime) -> anyhow::Result<()> {
     let mut bytes = vec![in rt.alloc(); 0u8; BYTES]?;
-    if write_example(bytes.as_mut_slice()).is_err() {
-        return Err(anyhow!("the example does not fit its memory"));
-    }
+    write_example(bytes.as_mut_slice()).map_err(|_| anyhow!(
+        "the example does not fit its memory"
+    ))?;
     rt.stdout().write_all(bytes.as_slice())?;
     Ok(())
 }

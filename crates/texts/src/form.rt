@@ -34,6 +34,7 @@ pub(crate) fn probes(heap: Global, words: &[Word]) -> Result<Option<Vec<u16>>, A
     if words.len() > 64 {
         return Ok(None);
     }
+    // A loop: two things can go wrong, and a chain would nest them.
     let mut probes = Vec::new(heap);
     for word in words {
         let Some(number) = word.number() else {
@@ -64,6 +65,7 @@ pub(crate) fn stretches(
     if words.len() > 64 {
         return Ok(None);
     }
+    // A loop: each word is judged by the room that those before it leave.
     let mut stretches = Vec::new(heap);
     let mut room = 4096;
     for word in words {

@@ -19,6 +19,7 @@ pub(crate) fn numeral(digits: &[u8]) -> Option<u64>
     if digits.is_empty() || has_leading_zero(digits) {
         return None;
     }
+    // A loop: in a `try_fold` the same test would stand in a closure, no plainer.
     let mut value = 0;
     for digit in digits {
         value = value * 10 + u64::from(*digit - b'0');
