@@ -1,7 +1,7 @@
 -- Places in a text: the byte that is next, the line, and the part between two places.
-use Rattle.std.proofs.Common.{◌≡◌, ℕ, ◌+◌, ◌-◌, ◌<◌, ◌≤◌, eqb, List, [], ◌∷◌, ◌++◌, length, get_or, take, drop, sym, ap, ◌∙◌, subst, ⊎_elim, arith, length-append, length-drop, take-append-drop, length-take}
+use Rattle.std.proofs.Common.{◌≡◌, ℕ, ◌+◌, ◌-◌, ◌<◌, ◌≤◌, eqb, List, [], ◌∷◌, ◌++◌, length, get_or, take, drop, sym, ap, ◌∙◌, subst, ⊎_elim, arith, length-append, length-drop, take-append-drop}
 use Rattle.std.proofs.lemmas.List.{drop_more, drop_all, drop-drop, take_all, take_at, length-take-le}
-use Rattle.std.proofs.lemmas.List.Sums.{count_by-le-length, prefix_len-le-length, count_by_more_yes, count_by_more_no}
+use Rattle.std.proofs.lemmas.List.Sums.{prefix_len-le-length, count_by_more_yes, count_by_more_no}
 use Rattle.std.proofs.lemmas.Bool.{cases_lt, eq-eqb, ne_eqb}
 use Rattle.std.specs.Char.{is_ascii_digit}
 use Rattle.std.specs.List.{prefix_len, take_while}
@@ -11,7 +11,7 @@ use Rattle.grammar.specs.Scans.{line_at, AllDigits, NoDigitNext, NextIs}
 pub next_at : (t : List ℕ) (i b : ℕ) → i < length t → (get_or t i 0 ≡ b → NextIs b (drop i t)) × (NextIs b (drop i t) → get_or t i 0 ≡ b)
 next_at t i b h = let e = drop_more t i 0 h in (λ p. subst (NextIs b) (sym e) p, λ n. subst (NextIs b) e n)
 
-pub next_past : (t : List ℕ) (i b : ℕ) → length t ≤ i → NextIs b (drop i t) → ⊥
+next_past : (t : List ℕ) (i b : ℕ) → length t ≤ i → NextIs b (drop i t) → ⊥
 next_past t i b h n = subst (NextIs b) (drop_all i t h) n
 
 pub next_within : (t : List ℕ) (i b : ℕ) → NextIs b (drop i t) → i < length t
@@ -31,10 +31,6 @@ pub part_is : (t ds : List ℕ) (a b : ℕ) → a ≤ b → b ≤ length t → d
 part_is t ds a b h k e =
     let n : length ds ≡ b - a = omega (arith, ap length e ∙ length-append ds (drop b t), length-drop a t, length-drop b t) in
     ap (take (b - a)) e ∙ take_at ds (drop b t) (b - a) n
-
--- a line is at most one more than the place
-pub line_le : (t : List ℕ) (i : ℕ) → line_at t i ≤ i + 1
-line_le t i = omega (arith, count_by-le-length (λ b. eqb b 10) (take i t), length-take i t)
 
 pub line_feed : (t : List ℕ) (i : ℕ) → i < length t → get_or t i 0 ≡ 10 → line_at t (i + 1) ≡ line_at t i + 1
 line_feed t i h e = ap (λ n. n + 1) (count_by_more_yes (λ b. eqb b 10) t i 0 h (eq-eqb _ 10 e))

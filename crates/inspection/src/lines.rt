@@ -42,7 +42,7 @@ fn push_reading(text: &mut String, reading: Reading) -> Result<(), AllocError>
         sequence,
         level,
     } = reading;
-    write!(text, "probe {probe} sequence {sequence} level {level}\n")
+    writeln!(text, "probe {probe} sequence {sequence} level {level}")
 }
 
 fn push_cell(text: &mut String, number: usize, cell: Cell<Reading>) -> Result<(), AllocError>

@@ -19,7 +19,7 @@ fn push_entry(text: &mut String, entry: Entry<Reading>) -> Result<(), AllocError
         sequence,
         level,
     } = item;
-    write!(text, "{rank} {worker} {probe} {sequence} {level}\n")
+    writeln!(text, "{rank} {worker} {probe} {sequence} {level}")
 }
 
 fn entry_lines(heap: Global, entries: &[Entry<Reading>]) -> Result<String, AllocError>

@@ -4,8 +4,8 @@ use Rattle.std.specs.List.{AllByRecursion}
 use Rattle.std.proofs.slice.Lists.{all_by_recursion_push}
 use Rattle.std.proofs.lemmas.List.{map_push}
 use Rattle.grammar.specs.Lines.{token_text, line_text}
-use Rattle.grammar.specs.Scans.{line_at, NextIs, Small, Ended, NoWord, NoLine}
-use Rattle.grammar.proofs.Lines.{Within, start, one_more, last, broken, no_word_no_line}
+use Rattle.grammar.specs.Scans.{line_at, Small, Ended, NoWord, NoLine}
+use Rattle.grammar.proofs.Lines.{Within, one_more, last, broken, no_word_no_line}
 use Rattle.grammar.proofs.Tokens.{no_second, two_numbers}
 use Rattle.grammar.proofs.Places.{part_is, part_rest, next_cut, next_within, next_at, line_feed, line_same}
 use Rattle.texts.specs.declared.lexer.Lexer.{Lexer}
@@ -101,14 +101,6 @@ pub record Reading (old cur : Lexer) (ws : List Word) : Type 0 where
   pub words : AllByRecursion (InLine (whole old) old.line) ws
   pub within : Within (left old) (left cur) (map token_of ws)
 
-pub line_start : {old new : Lexer} → NoByte 10 old new → Reading new new []
-line_start {old} {new} n = record {
-  moved = record { text = refl; forward = omega arith };
-  line = refl;
-  words = tt;
-  within = start (left new) (subst (λ (l : Lexer). NextIs 10 (left l) → ⊥) (sym n.same) n.other);
-}
-
 pub empty_line : {old new : Lexer} → BytePassed 10 old new → LinePassed old [] new
 empty_line h = record { moved = byte_moved h; line = feed_line h refl; words = tt; cut = byte_cut h }
 
@@ -162,12 +154,6 @@ module _ {old cur mid : Lexer} {ws : List Word} {w : Word} (r : Reading old cur 
               subst (Within (left old) (left new)) (sym (map_push token_of ws w))
               (one_more r.within (token_of w) (left mid) h.word.small word_cut h.ended (left new) (byte_cut b));
         }
-
-    pub less_left : {new : Lexer} → BytePassed 32 other new → length (whole old) - new.at < length (whole old) - cur.at
-    less_left {new} byte =
-        let b = subst (λ (l : Lexer). BytePassed 32 l new) no_feed.same byte in
-        let e = same_text old mid moved_there.text in
-        omega (arith, h.moved.forward, b.place, in_text b, ap length e)
 
     pub line_broken : {new : Lexer} → NoByte 32 other new → NoLine (left old)
     line_broken {new} byte =

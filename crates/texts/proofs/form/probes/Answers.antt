@@ -3,12 +3,9 @@ use Rattle.std.specs.List.{AllByRecursion}
 use Rattle.std.proofs.ResultArms.{chosen}
 use Rattle.std.proofs.slice.Lists.{all_by_recursion_push}
 use Rattle.grammar.specs.Lines.{number}
-use Rattle.grammar.proofs.Forms.{number_from, as_many, one_more, in_all, probes_many, not_a_probe, probe_high}
+use Rattle.grammar.proofs.Forms.{number_from, one_more, not_a_probe, probe_high}
 use Rattle.texts.specs.Words.{token_of}
 use Rattle.texts.proofs.form.probes.Goals as goal
-
-pub returns-then-words-gt64 : goal.returns-then-words-gt64
-returns-then-words-gt64 c = probes_many token_of c.args.words.now c.if-words-gt64.true
 
 pub loop-word-preserved : goal.loop-word-preserved
 loop-word-preserved c =
@@ -24,13 +21,3 @@ returns-in_default c = not_a_probe token_of c.args.words.now c.loop-word.word-in
 pub returns-in_default-try_from : goal.returns-in_default-try_from
 returns-in_default-try_from c =
     probe_high token_of c.args.words.now c.loop-word.word-index _ (omega arith) c.in-Some.number (sym c.in-Some.ensures) (let h = c.in_default-try_from.ensures in omega (arith, h))
-
-pub returns : goal.returns
-returns c =
-    let all = in_all token_of c.args.words.now number c.loop-word.word-index (vec_items c.loop-word.probes) c.loop-word.invariant.0 (omega arith) in (
-      record {
-        few = omega (arith, as_many token_of c.args.words.now number (vec_items c.loop-word.probes) all);
-        each = c.loop-word.invariant.1;
-      },
-      all,
-    )

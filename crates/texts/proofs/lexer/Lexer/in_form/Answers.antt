@@ -1,7 +1,7 @@
 use Rattle.std.specs.Fn.{FnOnceReturnsAt}
 use Rattle.std.proofs.Common.{Err, vec_items, ap, ◌∙◌, subst}
 use Rattle.std.proofs.lemmas.Result.{err_from_is_err_and}
-use Rattle.texts.specs.Parsing.FormRead.{broken, no_memory}
+use Rattle.texts.specs.Parsing.FormRead.{no_memory}
 use Rattle.texts.specs.Words.{LineRead}
 use Rattle.texts.proofs.Parses.{form_gave}
 use Rattle.texts.proofs.lexer.Lexer.in_form.Goals as goal
@@ -12,10 +12,6 @@ returns-in_err-words g c = let p = err_from_is_err_and c.from_residual.result c.
 pub returns-in_err-form : goal.returns-in_err-form
 returns-in_err-form g c =
     let p = err_from_is_err_and c.from_residual-in_err-form.result c.from_residual-in_err-form.ensures.1 in no_memory (p.1 ∙ ap Err p.2)
-
-pub returns-in_default : goal.returns-in_default
-returns-in_default g c =
-    broken (subst (λ o. LineRead c.args.self.now o c.line.new.self) c.in_default.is c.in_ok-words.ensures) (ap Err c.bad_line-bad.ensures)
 
 pub returns : goal.returns
 returns g c =
