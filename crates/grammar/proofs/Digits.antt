@@ -1,7 +1,9 @@
 -- Numbers in decimals: what digits write, and where they end.
-use Rattle.std.proofs.Common.{◌≡◌, ℕ, ◌+◌, ◌-◌, ◌*◌, ◌<◌, ◌≤◌, List, [], ◌∷◌, ◌++◌, length, get_or, take, drop, Some, None, decimal, Option, sym, refl, ap, ◌∙◌, ⊎_elim, arith, take-append-drop, rules}
+use Rattle.std.proofs.Common.{◌≡◌, ℕ, suc, ◌+◌, ◌-◌, ◌*◌, ◌<◌, ◌≤◌, Bool, true, false, cond, List, [], ◌∷◌, ◌++◌, length, get_or, take, drop, Some, None, decimal, Option, sym, refl, ap, ◌∙◌, subst, ⊎_elim, arith, take-append-drop, rules}
 use Rattle.std.specs.Str.Parse.{digits_value, digits_value_after}
-use Rattle.std.specs.Char.{digit_value}
+use Rattle.std.specs.Char.{digit_value, is_ascii_digit}
+use Rattle.std.specs.List.{prefix_len, take_while}
+use Rattle.std.proofs.lemmas.List.Sums.{take_while-cons}
 use Rattle.std.proofs.lemmas.Bool.{cases_eq}
 use Rattle.std.proofs.lemmas.Bool.Decides.{nat_tests}
 use Rattle.std.proofs.lemmas.Int.Digits.{digits_value_more}
@@ -12,9 +14,30 @@ use Rattle.grammar.specs.Scans.{AllDigits, NoDigitNext, limit, Numeral, NumberNe
 own : IsNumeralModel AllDigits (digits_value 10)
 own = numerals_by_value AllDigits (search rules)
 
-pub digits_push : (ds : List ℕ) (c : ℕ) → AllDigits ds → 48 ≤ c → c ≤ 57 → AllDigits (ds ++ c ∷ [])
-digits_push [] c f a b = (a, b, tt)
-digits_push (d ∷ ds) c f a b = (f.0, f.1, digits_push ds c f.2 a b)
+digit_is : (b : ℕ) → is_ascii_digit b ≡ true → (48 ≤ b) × (b ≤ 57)
+digit_is b h = (grind (arith, nat_tests), grind (arith, nat_tests))
+
+no_digit : (b : ℕ) → is_ascii_digit b ≡ false → 48 ≤ b → b ≤ 57 → ⊥
+no_digit b h x y = grind (arith, nat_tests)
+
+-- the digits at the front of a text, and what follows them
+pub digits_first : (t : List ℕ) → AllDigits (take_while is_ascii_digit t)
+digits_first [] = tt
+digits_first (b ∷ t) = subst AllDigits (sym (take_while-cons is_ascii_digit b t)) (go (digits_first t) (is_ascii_digit b) refl)
+  where
+    go : AllDigits (take_while is_ascii_digit t) → (d : Bool) → is_ascii_digit b ≡ d → AllDigits (cond d (b ∷ take_while is_ascii_digit t) [])
+    go f true e = let d = digit_is b e in (d.0, d.1, f)
+    go f false e = tt
+
+pub digits_end : (t : List ℕ) → NoDigitNext (drop (prefix_len is_ascii_digit t) t)
+digits_end [] = tt
+digits_end (b ∷ t) = go (digits_end t) (is_ascii_digit b) refl
+  where
+    go : NoDigitNext (drop (prefix_len is_ascii_digit t) t) → (d : Bool) → is_ascii_digit b ≡ d → NoDigitNext (drop (cond d (1 + prefix_len is_ascii_digit t) 0) (b ∷ t))
+    go n true e =
+        let k = prefix_len is_ascii_digit t in
+        let one : suc k ≡ 1 + k = omega arith in subst (λ m. NoDigitNext (drop m (b ∷ t))) one n
+    go n false e = no_digit b e
 
 pub decimal_digits : (v : ℕ) → v < limit → AllDigits (decimal v)
 decimal_digits v h = digits_decimal own v (omega arith)

@@ -1,13 +1,15 @@
 -- From the words of a line to a header, probes or stretches. `token` is what a word says.
-use Rattle.std.proofs.Common.{◌≡◌, ℕ, zero, suc, ◌+◌, ◌<◌, ◌≤◌, List, [], ◌∷◌, ◌++◌, map, length, get_or, take, Some, None, sym, refl, ap, ◌∙◌, subst, arith}
+use Rattle.std.proofs.Common.{◌≡◌, ℕ, zero, suc, ◌+◌, ◌<◌, ◌≤◌, List, [], ◌∷◌, ◌++◌, map, length, get_or, take, Bool, true, false, Some, None, Option, Decides, sym, refl, ap, ◌∙◌, subst, arith}
 use lib.ListN.{length-map}
 use Rattle.std.specs.List.{AllByRecursion}
+use Rattle.std.specs.Bool.{then_some}
+use Rattle.std.proofs.lemmas.Bool.{false≢true}
 use Rattle.std.proofs.lemmas.List.{map_push, map_more, get_or-map, take_all, take-map}
 use Rattle.grammar.specs.declared.plan.Header.{Header}
 use Rattle.grammar.specs.declared.plan.Stretch.{Stretch}
 use Rattle.grammar.specs.Lines.{Token, number, turns}
 use Rattle.grammar.specs.Plans.{HeaderFits, ProbesFit, turn_count, StretchesFit, header_words, probe_words, stretch_word, stretch_words}
-use Rattle.grammar.specs.Scans.{Small, number_of, stretch_of}
+use Rattle.grammar.specs.Scans.{Small, Says, number_of, stretch_of}
 
 pub number_from : (t : Token) (v : ℕ) → number_of t ≡ Some v → t ≡ number v
 number_from (number u) v e = let p : u ≡ v = cc in ap number p
@@ -103,25 +105,15 @@ module _ {W : Type 0} (token : W → Token) (ws : List W) where
       go (x ∷ y ∷ z ∷ []) h p q r = λ i. p i ∷ q i ∷ r i ∷ []
       go (x ∷ y ∷ z ∷ u ∷ vs) h p q r = absurd (omega arith)
 
-  pub header_not_three : (length ws ≡ 3 → ⊥) → (a : Header) → HeaderFits a → map token ws ≡ header_words a → ⊥
-  header_not_three n a f e = n (sym (length-map ws token) ∙ ap length e)
+  pub header_or_none : (h : Header) → map token ws ≡ header_words h → (fits : Bool) → Decides fits (HeaderFits h) → (r : Option Header) → r ≡ then_some fits h →
+      Says HeaderFits header_words (λ h. h) (map token ws) r
+  header_or_none h e true d r is = subst (Says HeaderFits header_words (λ h. h) (map token ws)) (sym is) (d.0 refl, e)
+  header_or_none h e false d r is =
+      let none : Says {B = Header} HeaderFits header_words (λ h. h) (map token ws) None =
+      λ a f g. false≢true (d.1 (subst HeaderFits (same_header (map token ws) a h g e) f)) in
+      subst (Says HeaderFits header_words (λ h. h) (map token ws)) (sym is) none
 
-  pub header_not_number : (i : ℕ) (d : W) → i < length ws → number_of (token (get_or ws i d)) ≡ None → (a : Header) (v : ℕ) →
-      get_or (header_words a) i (number 0) ≡ number v → map token ws ≡ header_words a → ⊥
-  header_not_number i d h n a v at e = none_from v (sym (ap number_of (word_at (header_words a) i d e h ∙ at)) ∙ n)
-
-  pub header_unfit : (h : Header) → map token ws ≡ header_words h → (HeaderFits h → ⊥) → (a : Header) → HeaderFits a →
-      map token ws ≡ header_words a → ⊥
-  header_unfit h e n a f g = n (subst HeaderFits (same_header (map token ws) a h g e) f)
-
-  -- line 2
-  pub probes_many : 64 < length ws → (a : List ℕ) → ProbesFit a → map token ws ≡ probe_words a → ⊥
-  probes_many h a f e = omega (arith, f.few, as_many number a e)
-
-  -- line 3
-  pub stretches_many : (w : ℕ) → 64 < length ws → (a : List Stretch) → StretchesFit w a → map token ws ≡ stretch_words a → ⊥
-  stretches_many w h a f e = omega (arith, f.few, as_many stretch_word a e)
-
+  -- lines 2 and 3
   module _ (i : ℕ) (d : W) (h : i < length ws) where
     pub not_a_probe : number_of (token (get_or ws i d)) ≡ None → (a : List ℕ) → ProbesFit a → map token ws ≡ probe_words a → ⊥
     not_a_probe n a f e = none_from (get_or a i 0) (sym (ap number_of (said_at number a i d 0 e h)) ∙ n)

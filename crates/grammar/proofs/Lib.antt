@@ -4,4 +4,3 @@ pub mod Tokens
 pub mod Lines
 pub mod Forms
 pub mod Plans
-pub mod Meanings

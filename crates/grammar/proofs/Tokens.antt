@@ -65,9 +65,6 @@ pub no_first : (text mid : List ℕ) → NumberNext text None mid → NoWord tex
 no_first text mid h t rest small ended e = h (first t) (after_first t rest) (small_first t small) (first_ended t rest ended) (e ∙ split_first t rest)
 
 module _ (text mid : List ℕ) (v : ℕ) (h : NumberNext text (Some v) mid) where
-  pub number_word : (NextIs 58 mid → ⊥) → Ended (number v) mid
-  number_word n = (h.2, n)
-
   module _ (after : List ℕ) (colon : mid ≡ 58 ∷ after) where
     pub two_numbers : (k : ℕ) (rest : List ℕ) → NumberNext after (Some k) rest → text ≡ token_text (turns v k) ++ rest
     two_numbers k rest j =

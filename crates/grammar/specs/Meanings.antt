@@ -1,6 +1,6 @@
 -- What the lines of a plan stand for.
-use Rattle.std.specs.Prelude.{ℕ, ◌+◌, ◌%◌, ◌^◌, List, [], ◌∷◌, replicate, pos}
-use Rattle.std.specs.List.{flat_map}
+use Rattle.std.specs.Prelude.{ℕ, ◌%◌, ◌^◌, List, map, replicate, pos}
+use Rattle.std.specs.List.{flat_map, enumerate_from}
 use Rattle.items.specs.declared.reading.Reading.{Reading}
 use Rattle.grammar.specs.declared.plan.Stretch.{Stretch}
 
@@ -8,14 +8,9 @@ use Rattle.grammar.specs.declared.plan.Stretch.{Stretch}
 abbrev pub item_of : ℕ → ℕ → Reading
 item_of j probe = record { probe = probe; sequence = j % 2 ^ 16; level = pos 0 }
 
--- the items of these probes, of which the first is item j
-abbrev pub items_from : ℕ → List ℕ → List Reading
-items_from j [] = []
-items_from j (probe ∷ probes) = item_of j probe ∷ items_from (j + 1) probes
-
 -- the items of a plan's probes, counted from 0
 abbrev pub items_of : List ℕ → List Reading
-items_of probes = items_from 0 probes
+items_of probes = map (λ p. item_of p.0 p.1) (enumerate_from 0 probes)
 
 -- the party of each turn, one stretch after the other
 abbrev pub turns_of : List Stretch → List ℕ

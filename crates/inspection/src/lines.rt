@@ -1,13 +1,12 @@
 // The lines that are printed.
-ghost use Rattle.std.specs.Prelude.{◌≡◌, ◌<◌, true, length, IfOk, string_bytes};
-ghost use Rattle.items.specs.Readings.{reading_of};
+ghost use Rattle.std.specs.Prelude.{◌≡◌, true, length, ◌++◌, IfOk, OnOk, string_bytes};
 ghost use Rattle.layout.specs.Blocks.{fit};
-ghost use Rattle.layout.specs.Decoding.{cell_in};
-ghost use Rattle.inspection.specs.Lines.{usage_line, refusal_line, refused_line, header_lines, reading_part, cell_line, used_line, cell_lines};
+ghost use Rattle.inspection.specs.Lines.{usage_line, refused_line, header_lines, reading_part, cell_line, used_line, cell_lines};
 
 use blocks::{BlockFault, Header, stored_cell};
 use items::Reading;
 use std::alloc::{AllocError, Global};
+use std::fmt::Write;
 use stores::{Cell, Refusal};
 
 pub(crate) const USAGE: &str =
@@ -19,65 +18,50 @@ pub(crate) fn usage(heap: Global) -> Result<String, AllocError>
     String::from_str(heap, USAGE)
 }
 
-fn refusal_text(heap: Global, number: u64, place: u64) -> Result<String, AllocError>
-    ensures { IfOk result (λ s. string_bytes s ≡ refusal_line number place) }
-{
-    format!(in heap; "refused {number} {place}\n")
-}
-
 pub(crate) fn refused(heap: Global, fault: BlockFault) -> Result<String, AllocError>
     ensures { IfOk result (λ s. string_bytes s ≡ refused_line fault) }
 {
-    refusal_text(heap, fault.number(), fault.place())
+    let number = fault.number();
+    let place = fault.place();
+    format!(in heap; "refused {number} {place}\n")
 }
 
 // Without the last line feed.
 pub(crate) fn header_text(heap: Global, n: usize, header: Header) -> Result<String, AllocError>
     ensures { IfOk result (λ s. string_bytes s ≡ header_lines n header) }
 {
-    let head = header.head;
-    let end = header.end;
+    let Header { head, end, .. } = header;
     format!(in heap; "cells {n}\nhead {head}\nend {end}")
 }
 
-fn reading_text(heap: Global, reading: Reading) -> Result<String, AllocError>
-    ensures { IfOk result (λ s. string_bytes s ≡ reading_part reading) }
+fn push_reading(text: &mut String, reading: Reading) -> Result<(), AllocError>
+    ensures { OnOk result (string_bytes text.new ≡ string_bytes text.old ++ reading_part reading) }
 {
     let Reading {
         probe,
         sequence,
         level,
     } = reading;
-    format!(in heap; "probe {probe} sequence {sequence} level {level}")
+    writeln!(text, "probe {probe} sequence {sequence} level {level}")
 }
 
-fn cell_text(heap: Global, number: usize, cell: Cell<Reading>) -> Result<String, AllocError>
-    ensures { IfOk result (λ s. string_bytes s ≡ cell_line number cell) }
+fn push_cell(text: &mut String, number: usize, cell: Cell<Reading>) -> Result<(), AllocError>
+    ensures { OnOk result (string_bytes text.new ≡ string_bytes text.old ++ cell_line number cell) }
 {
-    let rank = cell.rank;
-    let gap = cell.gap;
-    let reading = reading_text(heap, cell.item)?;
-    format!(in heap; "cell {number} rank {rank} gap {gap} {reading}\n")
+    let Cell { item, rank, gap } = cell;
+    write!(text, "cell {number} rank {rank} gap {gap} ")?;
+    push_reading(text, item)
 }
 
-// The line of a cell in use, and nothing of a free one.
-fn used_text(heap: Global, number: usize, cell: Cell<Reading>) -> Result<String, AllocError>
-    ensures { IfOk result (λ s. string_bytes s ≡ used_line number cell) }
+// The line of a cell in use, and nothing for a free one.
+fn push_used(text: &mut String, number: usize, cell: Cell<Reading>) -> Result<(), AllocError>
+    ensures { OnOk result (string_bytes text.new ≡ string_bytes text.old ++ used_line number cell) }
 {
     if cell.rank >= 0 {
-        cell_text(heap, number, cell)
+        push_cell(text, number, cell)
     } else {
-        Ok(String::new(heap))
+        Ok(())
     }
-}
-
-// Cell `i` of a memory of `n` cells.
-fn cell_at(memory: &[u8], n: usize, i: usize) -> Cell<Reading>
-    requires fits { fit (length memory.now) n ≡ true }
-    requires within { i < n }
-    ensures { result ≡ cell_in reading_of memory.now i }
-{
-    stored_cell::<Reading>(memory, i).unwrap()
 }
 
 pub(crate) fn cells_text(heap: Global, memory: &[u8], n: usize) -> Result<String, AllocError>
@@ -85,9 +69,10 @@ pub(crate) fn cells_text(heap: Global, memory: &[u8], n: usize) -> Result<String
     ensures { IfOk result (λ s. string_bytes s ≡ cell_lines memory.now n) }
 {
     let mut text = String::new(heap);
+    // By number, since a memory is bytes and has no slice of cells.
     for i in 0..n {
-        let line = used_text(heap, i, cell_at(memory, n, i))?;
-        text.push_str(line.as_str())?;
+        let cell = stored_cell::<Reading>(memory, i).unwrap();
+        push_used(&mut text, i, cell)?;
     }
     Ok(text)
 }

@@ -2,26 +2,21 @@
 use items::Reading;
 use protocol::{Answer, Call};
 use std::alloc::{AllocError, Global};
+use std::iter;
 
 // Steps of one worker.
-fn steps(calls: &mut Vec<Call<Reading>>, worker: usize, count: u8) -> Result<(), AllocError> {
-    for _ in 0..count {
-        calls.push(Call::WorkerStep(worker))?;
-    }
-    Ok(())
+fn steps(calls: &mut Vec<Call<Reading>>, worker: usize, count: usize) -> Result<(), AllocError> {
+    calls.extend(iter::repeat_n(Call::WorkerStep(worker), count))
 }
 
 // An item of this probe, and so many steps of the receiver with it.
-fn hand_over(calls: &mut Vec<Call<Reading>>, probe: u16, count: u8) -> Result<(), AllocError> {
+fn hand_over(calls: &mut Vec<Call<Reading>>, probe: u16, count: usize) -> Result<(), AllocError> {
     calls.push(Call::Submit(Reading {
         probe,
         sequence: 0,
         level: 0,
     }))?;
-    for _ in 0..count {
-        calls.push(Call::ReceiverStep)?;
-    }
-    Ok(())
+    calls.extend(iter::repeat_n(Call::ReceiverStep, count))
 }
 
 // Worker 0 falls asleep over rank 0. The receiver fills all cells, worker 1 frees cells 1 to 3, and the receiver comes
@@ -41,9 +36,5 @@ pub(crate) fn schedule(heap: Global) -> Result<Vec<Call<Reading>>, AllocError> {
 
 // A slot for each answer.
 pub(crate) fn no_answers(heap: Global, count: usize) -> Result<Vec<Answer<Reading>>, AllocError> {
-    let mut answers = Vec::new(heap);
-    for _ in 0..count {
-        answers.push(Answer::NotMade)?;
-    }
-    Ok(answers)
+    vec![in heap; Answer::NotMade; count]
 }

@@ -4,11 +4,11 @@ ghost use Rattle.grammar.specs.Plans.{HeaderFits};
 ghost use Rattle.texts.specs.Parsing.{plan_model};
 ghost use Rattle.rehearsals.specs.Outputs.{idle_worker, no_entry, staged, plan_rehearsal, ended_text, Printed};
 
-use crate::staging::{Outcome, run};
+use crate::staging::text_in;
 use grammar::Header;
 use items::Reading;
 use protocol::{Entry, Worker, WorkerPhase};
-use reports::{refused_line, report};
+use reports::refused_line;
 use std::alloc::{AllocError, Global};
 use stores::{Cell, Refusal};
 use texts::{ParseFault, Plan, parse};
@@ -37,35 +37,7 @@ const NO_ENTRY: Entry<Reading> = Entry {
     item: BLANK,
 };
 
-// As much memory as the largest plan takes.
-const MAX_CELLS: usize = 64;
-
-const MAX_WORKERS: usize = 8;
-
 const LOG_ROOM: usize = 64;
-
-// The text of a rehearsal in lent memory.
-fn text_in(
-    heap: Global,
-    cells: &mut [Cell<Reading>],
-    workers: &mut [Worker<Reading>],
-    entries: &mut [Entry<Reading>],
-    start: u64,
-    items: &[Reading],
-    turns: &[usize],
-) -> Result<String, AllocError>
-    requires cells { (0 < length cells.old) × (length cells.old ≤ 65536) }
-    requires workers { (0 < length workers.old) × (length workers.old ≤ 64) }
-    requires start { start < 2 ^ 40 }
-    ensures { IfOk result (λ s. string_bytes s ≡ ended_text (staged (length cells.old) workers.old entries.old start items.now turns.now)) }
-{
-    let Outcome {
-        logged,
-        stopped,
-        end,
-    } = run(cells, workers, entries, start, items, turns);
-    report(heap, &entries[0..logged], stopped, end)
-}
 
 // The text of a rehearsal in memory of its own.
 fn rehearsed_text(
@@ -77,16 +49,14 @@ fn rehearsed_text(
     requires { HeaderFits header }
     ensures { IfOk result (λ s. string_bytes s ≡ ended_text (staged header.cells (replicate header.workers idle_worker) (replicate 64 no_entry) header.start items.now turns.now)) }
 {
-    let n = header.cells as usize;
-    let count = header.workers as usize;
-    let mut cells = [FRESH; MAX_CELLS];
-    let mut workers = [IDLE; MAX_WORKERS];
-    let mut entries = [NO_ENTRY; LOG_ROOM];
+    let mut cells = vec![in heap; FRESH; header.cells as usize]?;
+    let mut workers = vec![in heap; IDLE; header.workers as usize]?;
+    let mut entries = vec![in heap; NO_ENTRY; LOG_ROOM]?;
     text_in(
         heap,
-        &mut cells[0..n],
-        &mut workers[0..count],
-        &mut entries,
+        cells.as_mut_slice(),
+        workers.as_mut_slice(),
+        entries.as_mut_slice(),
         header.start,
         items,
         turns,

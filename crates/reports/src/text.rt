@@ -1,21 +1,33 @@
 // All that is printed of a rehearsal, in one text.
-ghost use Rattle.std.specs.Prelude.{◌≡◌, IfOk, string_bytes};
+ghost use Rattle.std.specs.Prelude.{◌≡◌, ◌++◌, IfOk, OnOk, string_bytes};
 ghost use Rattle.std.specs.List.{flat_map};
 ghost use Rattle.reports.specs.Lines.{entry_line};
 ghost use Rattle.reports.specs.Reports.{stop_text, report_text};
 
-use crate::lines::{Stopped, entry_line, stopped_line};
+use crate::lines::Stopped;
 use items::Reading;
 use protocol::Entry;
 use std::alloc::{AllocError, Global};
+use std::fmt::Write;
+
+fn push_entry(text: &mut String, entry: Entry<Reading>) -> Result<(), AllocError>
+    ensures { OnOk result (string_bytes text.new ≡ string_bytes text.old ++ entry_line entry) }
+{
+    let Entry { rank, worker, item } = entry;
+    let Reading {
+        probe,
+        sequence,
+        level,
+    } = item;
+    writeln!(text, "{rank} {worker} {probe} {sequence} {level}")
+}
 
 fn entry_lines(heap: Global, entries: &[Entry<Reading>]) -> Result<String, AllocError>
     ensures { IfOk result (λ s. string_bytes s ≡ flat_map entry_line entries.now) }
 {
     let mut text = String::new(heap);
     for entry in entries {
-        let line = entry_line(heap, *entry)?;
-        text.push_str(line.as_str())?;
+        push_entry(&mut text, *entry)?;
     }
     Ok(text)
 }
@@ -23,8 +35,9 @@ fn entry_lines(heap: Global, entries: &[Entry<Reading>]) -> Result<String, Alloc
 fn stop_text(heap: Global, stopped: Option<Stopped>) -> Result<String, AllocError>
     ensures { IfOk result (λ s. string_bytes s ≡ stop_text stopped) }
 {
+    // A `match`: `map_or_else` with its two closures reads no plainer.
     match stopped {
-        Some(stopped) => stopped_line(heap, stopped),
+        Some(Stopped { number, turn }) => format!(in heap; "stopped {number} {turn}\n"),
         None => Ok(String::new(heap)),
     }
 }

@@ -1,12 +1,12 @@
 -- From a line that was read to what it says.
-use Rattle.std.proofs.Common.{◌≡◌, ℕ, ◌+◌, List, [], ◌∷◌, ◌++◌, map, length, drop, Some, None, Err, Option, Result, sym, refl, ap, ◌∙◌, subst}
+use Rattle.std.proofs.Common.{◌≡◌, ℕ, ◌+◌, List, [], ◌∷◌, ◌++◌, map, length, drop, Some, None, Ok, Err, Option, Result, sym, refl, ap, ◌∙◌, subst}
 use Rattle.std.specs.Option.{ok_or}
 use Rattle.std.specs.List.{AllByRecursion}
 use Rattle.grammar.specs.declared.plan.Header.{Header}
 use Rattle.grammar.specs.declared.plan.Stretch.{Stretch}
 use Rattle.grammar.specs.Lines.{Token, line_text}
 use Rattle.grammar.specs.Plans.{HeaderFits, ProbesFit, StretchesFit, header_words, probe_words, stretch_words, InForm, FirstBad}
-use Rattle.grammar.specs.Scans.{Small, NoLine, NoLineOf, Says}
+use Rattle.grammar.specs.Scans.{Small, NoLineOf, Says}
 use Rattle.grammar.proofs.Lines.{one_line}
 use Rattle.grammar.proofs.Plans.{bad_first, bad_second, bad_third, bad_fourth, whole_text}
 use Rattle.texts.specs.declared.fault.ParseFault.{ParseFault}
@@ -15,29 +15,34 @@ use Rattle.texts.specs.declared.fault.TextFault.TheVariants.{BadLine}
 use Rattle.texts.specs.declared.lexer.Lexer.{Lexer}
 use Rattle.texts.specs.declared.plan.Plan.{Plan}
 use Rattle.texts.specs.declared.word.Word.{Word}
-use Rattle.texts.specs.Parsing.{bad_line, Parsed, FormPassed, LineParsed, EndParsed}
+use Rattle.texts.specs.Parsing.{bad_line, Parsed, FormPassed, FormRead, LineParsed, EndParsed}
+use Rattle.texts.specs.Parsing.FormRead.{said, unsaid, broken, no_memory}
 use Rattle.texts.specs.Words.{token_of, whole, left, Start, InLine, LinePassed}
 
 all_small : (t : List ℕ) (k : ℕ) (ws : List Word) → AllByRecursion (InLine t k) ws → AllByRecursion Small (map token_of ws)
 all_small t k [] h = tt
 all_small t k (w ∷ ws) h = (h.0.part.small, all_small t k ws h.1)
 
-module _ {A B : Type 0} (Fits : A → Type 0) (words : A → List Token) (value : B → A) (small : (a : A) → Fits a → AllByRecursion Small (words a))
-    (old new : Lexer) (bad : ParseFault) (bad_is : bad ≡ bad_line old.line) where
-  is_bad : ((a : A) (rest : List ℕ) → Fits a → left old ≡ line_text (words a) ++ rest → ⊥) → LineParsed Fits words value old (Err bad) new
-  is_bad n = subst (λ f. LineParsed Fits words value old (Err f) new) (sym bad_is) (refl, n)
+-- what a form gave of the words of a line
+pub form_gave : {B E : Type 0} (gives : List Word → Result (Option B) E → Type 0) (old new : Lexer) (bad : ParseFault) → bad ≡ bad_line old.line →
+    (ws : List Word) (o : Option B) (r : Result B ParseFault) → LinePassed old ws new → gives ws (Ok o) → r ≡ ok_or o bad → FormRead gives old r new
+form_gave gives old new bad is ws (Some b) r l s e = said ws b l s e
+form_gave gives old new bad is ws None r l s e = unsaid ws l s (e ∙ ap Err is)
 
-  pub no_line : NoLine (left old) → LineParsed Fits words value old (Err bad) new
-  no_line n = is_bad (λ a rest f e. n (words a) rest (small a f) e)
-
-  pub line_says : (ws : List Word) (o : Option B) (r : Result B ParseFault) → LinePassed old ws new → Says Fits words value (map token_of ws) o →
-      r ≡ ok_or o bad → LineParsed Fits words value old r new
-  line_says ws o r l s e = subst (λ x. LineParsed Fits words value old x new) (sym e) (go o s)
-    where
-      go : (o : Option B) → Says Fits words value (map token_of ws) o → LineParsed Fits words value old (ok_or o bad) new
-      go (Some b) s = record { moved = l.moved; line = l.line; fits = s.0; cut = l.cut ∙ ap (λ t. line_text t ++ left new) s.1 }
-      go None s = is_bad (λ a rest f e.
-          s a f (one_line (map token_of ws) (words a) (left new) rest (all_small (whole old) old.line ws l.words) (small a f) (sym l.cut ∙ e)).0)
+-- where the form says what the words say
+pub line_parsed : {A B E : Type 0} (Fits : A → Type 0) (words : A → List Token) (value : B → A) → ((a : A) → Fits a → AllByRecursion Small (words a)) →
+    {gives : List Word → Result (Option B) E → Type 0} {old : Lexer} {r : Result B ParseFault} {new : Lexer} → FormRead gives old r new →
+    ((ws : List Word) (o : Option B) → gives ws (Ok o) → Says Fits words value (map token_of ws) o) → LineParsed Fits words value old r new
+line_parsed Fits words value small {old = old} {new = new} (said ws b l g e) says =
+    let s = says ws (Some b) g in
+    let passed : FormPassed Fits words old (value b) new = record { moved = l.moved; line = l.line; fits = s.0; cut = l.cut ∙ ap (λ t. line_text t ++ left new) s.1 } in
+    subst (λ x. LineParsed Fits words value old x new) (sym e) passed
+line_parsed Fits words value small {old = old} {new = new} (unsaid ws l g e) says =
+    subst (λ x. LineParsed Fits words value old x new) (sym e)
+    (refl, λ a rest f c. says ws None g a f (one_line (map token_of ws) (words a) (left new) rest (all_small (whole old) old.line ws l.words) (small a f) (sym l.cut ∙ c)).0)
+line_parsed Fits words value small {old = old} {new = new} (broken n e) says =
+    subst (λ x. LineParsed Fits words value old x new) (sym e) (refl, λ a rest f c. n (words a) rest (small a f) c)
+line_parsed Fits words value small {old = old} {new = new} (no_memory e) says = subst (λ x. LineParsed Fits words value old x new) (sym e) tt
 
 -- the lines of a text, one after the other; a fault is that of the line where it came
 module _ (text : List ℕ) (l₀ : Lexer) (s : Start text l₀) where

@@ -1,15 +1,18 @@
 -- The lexer's steps, put together.
-use Rattle.std.proofs.Common.{◌≡◌, ℕ, ◌+◌, ◌-◌, ◌<◌, ◌≤◌, List, [], ◌∷◌, ◌++◌, map, length, get_or, take, drop, Some, sym, refl, ap, ◌∙◌, subst, arith}
+use Rattle.std.proofs.Common.{◌≡◌, ℕ, ◌+◌, ◌-◌, ◌<◌, ◌≤◌, List, [], ◌∷◌, ◌++◌, map, length, get_or, take, drop, Some, None, sym, refl, ap, ◌∙◌, subst, arith}
 use Rattle.std.specs.List.{AllByRecursion}
 use Rattle.std.proofs.slice.Lists.{all_by_recursion_push}
 use Rattle.std.proofs.lemmas.List.{map_push}
 use Rattle.grammar.specs.Lines.{token_text, line_text}
-use Rattle.grammar.specs.Scans.{line_at, NextIs, Small, Ended, NoWord, NoLine}
-use Rattle.grammar.proofs.Lines.{Within, start, one_more, last, broken, no_word_no_line}
+use Rattle.grammar.specs.Scans.{line_at, Small, Ended, NoWord, NoLine}
+use Rattle.grammar.proofs.Lines.{Within, one_more, last, broken, no_word_no_line}
+use Rattle.grammar.proofs.Tokens.{no_second, two_numbers}
 use Rattle.grammar.proofs.Places.{part_is, part_rest, next_cut, next_within, next_at, line_feed, line_same}
 use Rattle.texts.specs.declared.lexer.Lexer.{Lexer}
+use Rattle.texts.specs.declared.word.Saying.{Saying}
+use Rattle.texts.specs.declared.word.Saying.TheVariants.{Number, Turns}
 use Rattle.texts.specs.declared.word.Word.{Word}
-use Rattle.texts.specs.Words.{token_of, bytes_of, line_of, whole, left, Moved, BytePassed, NoByte, NumberRead, PartOf, WordPassed, InLine, LinePassed}
+use Rattle.texts.specs.Words.{said, token_of, bytes_of, line_of, whole, left, Moved, BytePassed, NoByte, NumberRead, SayingRead, PartOf, WordPassed, InLine, LinePassed}
 
 pub same_text : (old new : Lexer) → new.text ≡ old.text → whole new ≡ whole old
 same_text old new e = ap (λ t. t.now) e
@@ -40,30 +43,55 @@ module _ {b : ℕ} {old new : Lexer} (h : BytePassed b old new) where
   pub other_line : (b ≡ 10 → ⊥) → new.line ≡ old.line
   other_line n = new.placed ∙ there ∙ line_same (whole old) old.at in_text (λ e. n (sym the_byte ∙ e)) ∙ sym old.placed
 
--- a number that no colon follows
-pub number_alone : {old mid new : Lexer} {v : ℕ} → NumberRead old (Some v) mid → NoByte 58 mid new →
-    NumberRead old (Some v) new × (NextIs 58 (left new) → ⊥)
-number_alone {old} {mid} {new} {v} r n =
-    (subst (NumberRead old (Some v)) (sym n.same) r, subst (λ (l : Lexer). NextIs 58 (left l) → ⊥) (sym n.same) n.other)
+-- past what a word says
+pub record SayingPassed (old : Lexer) (s : Saying) (new : Lexer) : Type 0 where
+  pub moved : Moved old new
+  pub same_line : new.line ≡ old.line
+  pub small : Small (said s)
+  pub cut : left old ≡ token_text (said s) ++ left new
+  pub ended : Ended (said s) (left new)
+
+saying_passed : {old new : Lexer} (s : Saying) → SayingRead old (Some s) new → SayingPassed old s new
+saying_passed {old} {new} (Number v) (mid, r, n) =
+    let one : SayingPassed old (Number v) mid = record {
+      moved = r.moved;
+      same_line = r.same_line;
+      small = r.number.0;
+      cut = r.number.1;
+      ended = (r.number.2, n.other);
+    } in
+    subst (SayingPassed old (Number v)) (sym n.same) one
+saying_passed {old} {new} (Turns s) (mid, after, first, colon, second) = record {
+  moved = moved_on first.moved (moved_on (byte_moved colon) second.moved);
+  same_line = second.same_line ∙ other_line colon (λ e. omega arith) ∙ first.same_line;
+  small = (first.number.0, second.number.0);
+  cut = two_numbers (left old) (left mid) s.party first.number (left after) (byte_cut colon) s.count (left new) second.number;
+  ended = second.number.2;
+}
+
+-- a colon that no number follows
+pub half_word : {old mid after new : Lexer} {party : ℕ} → NumberRead old (Some party) mid → BytePassed 58 mid after →
+    NumberRead after None new → NoWord (left old)
+half_word {old} {mid} {after} {new} {party} first colon second =
+    no_second (left old) (left mid) party first.number (left after) (byte_cut colon) (left new) second.number
 
 -- a word that was read
-pub word_passed : (old new : Lexer) (w : Word) → Moved old new → Small (token_of w) → left old ≡ token_text (token_of w) ++ left new →
-    Ended (token_of w) (left new) → bytes_of w ≡ take (new.at - old.at) (drop old.at (whole new)) → line_of w ≡ old.line →
-    new.line ≡ old.line → WordPassed old w new
-word_passed old new w m small rest ended part line same_line =
-    let same = same_text old new m.text in
-    let here = part ∙ ap (λ l. take (new.at - old.at) (drop old.at l)) same in
+pub word_passed : {old new : Lexer} (w : Word) → SayingRead old (Some w.says) new → bytes_of w ≡ take (new.at - old.at) (drop old.at (whole old)) →
+    line_of w ≡ old.line → WordPassed old w new
+word_passed {old} {new} w read part line =
+    let s = saying_passed w.says read in
+    let same = same_text old new s.moved.text in
     let within : new.at ≤ length (whole old) = omega (arith, new.within, ap length same) in
     record {
-      moved = m;
+      moved = s.moved;
       word = record {
-        part = here;
+        part = part;
         line = line ∙ old.placed;
-        spelled = here ∙ part_is (whole old) (token_text (token_of w)) old.at new.at m.forward within (rest ∙ ap (λ l. token_text (token_of w) ++ drop new.at l) same);
-        small = small;
+        spelled = part ∙ part_is (whole old) (token_text (token_of w)) old.at new.at s.moved.forward within (s.cut ∙ ap (λ l. token_text (token_of w) ++ drop new.at l) same);
+        small = s.small;
       };
-      ended = ended;
-      same_line = same_line;
+      ended = s.ended;
+      same_line = s.same_line;
     }
 
 -- so far the words of a line, in the loop that reads it
@@ -72,14 +100,6 @@ pub record Reading (old cur : Lexer) (ws : List Word) : Type 0 where
   pub line : cur.line ≡ old.line
   pub words : AllByRecursion (InLine (whole old) old.line) ws
   pub within : Within (left old) (left cur) (map token_of ws)
-
-pub line_start : {old new : Lexer} → NoByte 10 old new → Reading new new []
-line_start {old} {new} n = record {
-  moved = record { text = refl; forward = omega arith };
-  line = refl;
-  words = tt;
-  within = start (left new) (subst (λ (l : Lexer). NextIs 10 (left l) → ⊥) (sym n.same) n.other);
-}
 
 pub empty_line : {old new : Lexer} → BytePassed 10 old new → LinePassed old [] new
 empty_line h = record { moved = byte_moved h; line = feed_line h refl; words = tt; cut = byte_cut h }
@@ -134,12 +154,6 @@ module _ {old cur mid : Lexer} {ws : List Word} {w : Word} (r : Reading old cur 
               subst (Within (left old) (left new)) (sym (map_push token_of ws w))
               (one_more r.within (token_of w) (left mid) h.word.small word_cut h.ended (left new) (byte_cut b));
         }
-
-    pub less_left : {new : Lexer} → BytePassed 32 other new → length (whole old) - new.at < length (whole old) - cur.at
-    less_left {new} byte =
-        let b = subst (λ (l : Lexer). BytePassed 32 l new) no_feed.same byte in
-        let e = same_text old mid moved_there.text in
-        omega (arith, h.moved.forward, b.place, in_text b, ap length e)
 
     pub line_broken : {new : Lexer} → NoByte 32 other new → NoLine (left old)
     line_broken {new} byte =

@@ -1,14 +1,15 @@
 -- What is read of a text, and of a line of it.
-use Rattle.std.specs.Prelude.{◌≡◌, ℕ, ◌+◌, ◌<◌, List, ◌++◌, length, Ok, Err, vec_items, Result}
+use Rattle.std.specs.Prelude.{◌≡◌, ℕ, ◌+◌, ◌<◌, List, ◌++◌, length, Some, None, Ok, Err, vec_items, Option, Result}
 use Rattle.grammar.specs.Lines.{Token, line_text}
 use Rattle.grammar.specs.Plans.{PlanModel, InForm, FirstBad}
-use Rattle.grammar.specs.Scans.{NoLineOf}
+use Rattle.grammar.specs.Scans.{NoLine, NoLineOf}
 use Rattle.texts.specs.declared.fault.ParseFault.{ParseFault}
 use Rattle.texts.specs.declared.fault.ParseFault.TheVariants.{Text, NoMemory}
 use Rattle.texts.specs.declared.fault.TextFault.TheVariants.{BadLine}
 use Rattle.texts.specs.declared.lexer.Lexer.{Lexer}
 use Rattle.texts.specs.declared.plan.Plan.{Plan}
-use Rattle.texts.specs.Words.{left, Moved}
+use Rattle.texts.specs.declared.word.Word.{Word}
+use Rattle.texts.specs.Words.{left, Moved, LinePassed}
 
 -- a plan in lists
 abbrev pub plan_model : Plan → PlanModel
@@ -30,6 +31,13 @@ pub record FormPassed {A : Type 0} (Fits : A → Type 0) (words : A → List Tok
   pub line : new.line ≡ old.line + 1
   pub fits : Fits a
   pub cut : left old ≡ line_text (words a) ++ left new
+
+-- what a form gave of the words of the line that was next, or that the line is bad
+pub data FormRead {B E : Type 0} (gives : List Word → Result (Option B) E → Type 0) (old : Lexer) (r : Result B ParseFault) (new : Lexer) : Type 0 where
+  said : (ws : List Word) (b : B) → LinePassed old ws new → gives ws (Ok (Some b)) → r ≡ Ok b → FormRead gives old r new
+  unsaid : (ws : List Word) → LinePassed old ws new → gives ws (Ok None) → r ≡ Err (bad_line old.line) → FormRead gives old r new
+  broken : NoLine (left old) → r ≡ Err (bad_line old.line) → FormRead gives old r new
+  no_memory : r ≡ Err NoMemory → FormRead gives old r new
 
 -- what the line that was next says in this form, or that it is bad
 abbrev pub LineParsed : {A B : Type 0} → (A → Type 0) → (A → List Token) → (B → A) → Lexer → Result B ParseFault → Lexer → Type 0

@@ -4,21 +4,23 @@ use Rattle.std.specs.List.{AllByRecursion}
 use Rattle.grammar.specs.Lines.{Token, number, turns, token_text, line_text}
 use Rattle.grammar.specs.Scans.{line_at, AllDigits, NoDigitNext, NextIs, Small, NumberNext, Ended, NoWord, NoLine}
 use Rattle.texts.specs.declared.lexer.Lexer.{Lexer}
+use Rattle.texts.specs.declared.word.Saying.{Saying}
+use Rattle.texts.specs.declared.word.Saying.TheVariants.{Number, Turns}
 use Rattle.texts.specs.declared.word.Word.{Word}
-use Rattle.texts.specs.declared.word.Word.TheVariants.{Number, Turns}
 
 -- what a word says, its bytes, and its line
+abbrev pub said : Saying → Token
+said (Number value) = number value
+said (Turns s) = turns s.party s.count
+
 abbrev pub token_of : Word → Token
-token_of (Number text line value) = number value
-token_of (Turns text line party count) = turns party count
+token_of w = said w.says
 
 abbrev pub bytes_of : Word → List ℕ
-bytes_of (Number text line value) = text.now
-bytes_of (Turns text line party count) = text.now
+bytes_of w = w.text.now
 
 abbrev pub line_of : Word → ℕ
-line_of (Number text line value) = line
-line_of (Turns text line party count) = line
+line_of w = w.line
 
 -- the text that a lexer reads, and what is left of it
 abbrev pub whole : Lexer → List ℕ
@@ -67,6 +69,13 @@ pub record NumberRead (old : Lexer) (r : Option ℕ) (new : Lexer) : Type 0 wher
   pub moved : Moved old new
   pub same_line : new.line ≡ old.line
   pub number : NumberNext (left old) r (left new)
+
+-- what was next says: a number that no colon follows, or two numbers with a colon between them
+abbrev pub SayingRead : Lexer → Option Saying → Lexer → Type 0
+SayingRead old (Some (Number value)) new = (mid : Lexer) × NumberRead old (Some value) mid × NoByte 58 mid new
+SayingRead old (Some (Turns s)) new =
+    (mid : Lexer) × (after : Lexer) × NumberRead old (Some s.party) mid × BytePassed 58 mid after × NumberRead after (Some s.count) new
+SayingRead old None new = NoWord (left old)
 
 -- w is the part of the text from one place to another, with the line of its first byte
 pub record PartOf (text : List ℕ) (from to : ℕ) (w : Word) : Type 0 where

@@ -6,7 +6,7 @@ ghost use Rattle.texts.specs.Faults.{text_layer, text_reason};
 use std::alloc::AllocError;
 use stores::{Layer, Refusal};
 
-// The refusal of a text out of form.
+// The refusal of a text out of form. An enum, as the refusals of all layers are.
 #[derive(Clone, Copy, PartialEq, Eq, Debug)]
 pub enum TextFault {
     // This is the first bad line, counted from 1; text after the third line is line 4.

@@ -16,4 +16,4 @@ pub use fault::{ParseFault, TextFault};
 pub use lexer::Lexer;
 pub use parser::parse;
 pub use plan::Plan;
-pub use word::Word;
+pub use word::{Saying, Word};

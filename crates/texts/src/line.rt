@@ -24,7 +24,7 @@ impl<'a> Lexer<'a> {
             if self.eat(b'\n') {
                 return Ok(Some(words));
             }
-            if !self.eat(b' ') {
+            if !self.space() {
                 return Ok(None);
             }
         }

@@ -1,10 +1,21 @@
 // The words of a text.
-ghost use Rattle.std.specs.Prelude.{◌≡◌};
-ghost use Rattle.texts.specs.Words.{Start, Eaten, DigitsEaten, NumberRead, WordRead};
+ghost use Rattle.std.specs.Prelude.{◌≡◌, ◌≤◌, length};
+ghost use Rattle.std.specs.Char.{is_ascii_digit};
+ghost use Rattle.std.specs.List.{prefix_len};
+ghost use Rattle.texts.specs.Words.{Start, Eaten, DigitsEaten, NumberRead, SayingRead, WordRead};
 
 use crate::lexer::Lexer;
 use crate::numeral::numeral;
-use crate::word::Word;
+use crate::word::{Saying, Word};
+use grammar::Stretch;
+
+// How many digits stand in front.
+fn digit_count(bytes: &[u8]) -> usize
+    ensures count { result ≡ prefix_len is_ascii_digit bytes.now }
+    ensures within { result ≤ length bytes.now }
+{
+    bytes.iter().take_while(|b| b.is_ascii_digit()).count()
+}
 
 impl<'a> Lexer<'a> {
     pub fn new(text: &'a [u8]) -> Lexer<'a>
@@ -21,27 +32,29 @@ impl<'a> Lexer<'a> {
     pub(crate) fn eat(&mut self, b: u8) -> bool
         ensures { Eaten b self.old result self.new }
     {
-        if self.at >= self.text.len() || self.text[self.at] != b {
+        if self.text.get(self.at) != Some(&b) {
             return false;
         }
-        let line = if b == b'\n' { self.line + 1 } else { self.line };
         self.at += 1;
-        self.line = line;
+        self.line += u64::from(b == b'\n');
         true
+    }
+
+    // Goes past a space if it is next.
+    pub(crate) fn space(&mut self) -> bool
+        ensures { Eaten 32 self.old result self.new }
+    {
+        self.eat(b' ')
     }
 
     // Goes past the digits that are next.
     fn digits(&mut self) -> &'a [u8]
         ensures { DigitsEaten self.old result.now self.new }
     {
-        let text = self.text;
-        let from = self.at;
-        let mut end = from;
-        while end < text.len() && text[end].is_ascii_digit() {
-            end += 1;
-        }
-        self.at = end;
-        &text[from..end]
+        let rest = &self.text[self.at..];
+        let count = digit_count(rest);
+        self.at += count;
+        &rest[..count]
     }
 
     fn number(&mut self) -> Option<u64>
@@ -50,28 +63,31 @@ impl<'a> Lexer<'a> {
         numeral(self.digits())
     }
 
+    // What the word that is next says.
+    fn saying(&mut self) -> Option<Saying>
+        ensures { SayingRead self.old result self.new }
+    {
+        let value = self.number()?;
+        if !self.eat(b':') {
+            return Some(Saying::Number(value));
+        }
+        let count = self.number()?;
+        Some(Saying::Turns(Stretch {
+            party: value,
+            count,
+        }))
+    }
+
     // The word that is next, as far as it goes.
     pub fn word(&mut self) -> Option<Word<'a>>
         ensures { WordRead self.old result self.new }
     {
-        let from = self.at;
-        let line = self.line;
-        let value = self.number()?;
-        if self.eat(b':') {
-            let count = self.number()?;
-            let text = self.text;
-            return Some(Word::Turns {
-                text: &text[from..self.at],
-                line,
-                party: value,
-                count,
-            });
-        }
-        let text = self.text;
-        Some(Word::Number {
-            text: &text[from..self.at],
+        let Lexer { text, at, line } = *self;
+        let says = self.saying()?;
+        Some(Word {
+            text: &text[at..self.at],
             line,
-            value,
+            says,
         })
     }
 }

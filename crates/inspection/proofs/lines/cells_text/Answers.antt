@@ -1,5 +1,4 @@
-use Rattle.std.proofs.Common.{◌≡◌, ℕ, ◌+◌, List, ◌++◌, is_ok, ap, ◌∙◌, add-one}
-use Rattle.std.proofs.ResultArms.{chosen}
+use Rattle.std.proofs.Common.{◌≡◌, ℕ, ◌+◌, List, ◌++◌, ap, ◌∙◌, add-one, rules}
 use Rattle.items.specs.Readings.{reading_of}
 use Rattle.layout.specs.Decoding.{cell_in}
 use Rattle.inspection.specs.Lines.{used_line, cell_lines}
@@ -11,6 +10,5 @@ one_more m i old line new a b e = rw add-one (e ∙ (λ j. a j ++ b j))
 
 pub loop-i-preserved : goal.loop-i-preserved
 loop-i-preserved c =
-    let pushed = chosen _ _ _ _ c.push_str.ensures.bytes (ap is_ok c.in_ok-push_str.was) in
-    let line = c.as_str.ensures.value ∙ c.in_ok-line.ensures ∙ ap (used_line c.loop-i.i) c.cell_at.ensures in
-    one_more c.args.memory.now c.loop-i.i _ _ _ c.loop-i.invariant line pushed
+    let cell : c.unwrap-cell.result ≡ cell_in reading_of c.args.memory.now c.loop-i.i = search rules in
+    one_more c.args.memory.now c.loop-i.i _ _ _ c.loop-i.invariant (ap (used_line c.loop-i.i) cell) c.in_ok-push_used.ensures

@@ -1,21 +1,14 @@
-use Rattle.std.proofs.Common.{◌≡◌, ◌-◌, ◌∙◌, ap, length, take, replicate, arith}
+use Rattle.std.proofs.Common.{◌≡◌, ◌∙◌, length, replicate, ap, sym}
 use Rattle.std.proofs.lemmas.Result.{IfOk-weaker}
-use Rattle.std.proofs.lemmas.List.{take-replicate, length-take-le, length-replicate}
-use Rattle.items.specs.Readings.{zero_reading}
-use Rattle.stores.specs.Model.{fresh_cell}
 use Rattle.rehearsals.specs.Outputs.{idle_worker, no_entry, staged, ended_text}
 use Rattle.rehearsals.proofs.output.rehearsed_text.Goals as goal
 
 pub returns : goal.returns
 returns c =
     let h = c.args.header in
-    let cells = replicate 64 (fresh_cell zero_reading) in
-    let sized : length (take (h.cells - 0) cells) ≡ h.cells =
-    length-take-le (h.cells - 0) cells (omega (arith, length-replicate 64 (fresh_cell zero_reading), c.requires.most_cells)) ∙ omega arith in
-    let whole : h.workers - 0 ≡ h.workers = omega arith in
-    let idle : take (h.workers - 0) (replicate 8 idle_worker) ≡ replicate h.workers idle_worker =
-    ap (λ n. take n (replicate 8 idle_worker)) whole ∙ take-replicate h.workers 8 idle_worker c.requires.most_workers in
-    let same : ended_text (staged (length (take (h.cells - 0) cells)) (take (h.workers - 0) (replicate 8 idle_worker)) (replicate 64 no_entry) h.start c.args.items.now c.args.turns.now)
-    ≡ ended_text (staged h.cells (replicate h.workers idle_worker) (replicate 64 no_entry) h.start c.args.items.now c.args.turns.now) =
-    λ i. ended_text (staged (sized i) (idle i) (replicate 64 no_entry) h.start c.args.items.now c.args.turns.now) in
-    IfOk-weaker c.text_in.result _ _ (λ s e. e ∙ same) c.text_in.ensures
+    let sized : length c.as_mut_slice.result.now ≡ h.cells = ap length c.as_mut_slice.ensures.value ∙ sym c.in_ok-cells.cells.ok.0 ∙ c.in_ok-cells.ensures.len in
+    let idle : c.as_mut_slice-2.result.now ≡ replicate h.workers idle_worker =
+    c.as_mut_slice-2.ensures.value ∙ c.in_ok-workers.ensures.items_if_clones_equal (λ y e i. record { phase = e.0 i; rank = e.1.0 i; copy = e.1.1 i }) in
+    let fresh : c.as_mut_slice-3.result.now ≡ replicate 64 no_entry =
+    c.as_mut_slice-3.ensures.value ∙ c.in_ok-entries.ensures.items_if_clones_equal (λ y e i. record { rank = e.0 i; worker = e.1.0 i; item = e.1.1 i }) in
+    IfOk-weaker c.text_in.result _ _ (λ s e. e ∙ (λ i. ended_text (staged (sized i) (idle i) (fresh i) h.start c.args.items.now c.args.turns.now))) c.text_in.ensures

@@ -4,12 +4,9 @@ use Rattle.std.proofs.ResultArms.{chosen}
 use Rattle.std.proofs.slice.Lists.{all_by_recursion_push}
 use Rattle.std.proofs.lemmas.Bool.{false≢true}
 use Rattle.grammar.specs.Plans.{turn_count, stretch_word}
-use Rattle.grammar.proofs.Forms.{stretch_from, as_many, one_more, in_all, turn_count_push, stretches_many, not_a_stretch, stretch_unfit}
+use Rattle.grammar.proofs.Forms.{stretch_from, one_more, turn_count_push, not_a_stretch, stretch_unfit}
 use Rattle.texts.specs.Words.{token_of}
 use Rattle.texts.proofs.form.stretches.Goals as goal
-
-pub returns-then-words-gt64 : goal.returns-then-words-gt64
-returns-then-words-gt64 c = stretches_many token_of c.args.words.now c.args.workers c.if-words-gt64.true
 
 pub loop-word-preserved : goal.loop-word-preserved
 loop-word-preserved c =
@@ -29,14 +26,3 @@ pub returns-then-not-stretch_fits : goal.returns-then-not-stretch_fits
 returns-then-not-stretch_fits c =
     stretch_unfit token_of c.args.words.now c.loop-word.word-index _ (omega arith) c.args.workers c.in-Some.next (vec_items c.loop-word.stretches) c.loop-word.room (sym c.in-Some.ensures) c.loop-word.invariant.0 c.loop-word.invariant.2
     (λ f. false≢true (c.if-not-stretch_fits.ensures.1 f))
-
-pub returns : goal.returns
-returns c =
-    let all = in_all token_of c.args.words.now stretch_word c.loop-word.word-index (vec_items c.loop-word.stretches) c.loop-word.invariant.0 (omega arith) in (
-      record {
-        few = omega (arith, as_many token_of c.args.words.now stretch_word (vec_items c.loop-word.stretches) all);
-        each = c.loop-word.invariant.1;
-        in_all = omega arith;
-      },
-      all,
-    )

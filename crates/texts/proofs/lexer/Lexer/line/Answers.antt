@@ -3,17 +3,12 @@ use Rattle.std.proofs.ResultArms.{chosen}
 use Rattle.grammar.specs.Scans.{NoLine}
 use Rattle.texts.specs.declared.lexer.Lexer.{Lexer}
 use Rattle.texts.specs.Words.{left, LinePassed}
-use Rattle.texts.proofs.Steps.{Reading, line_start, empty_line, no_word, line_done, line_more, line_broken, less_left}
+use Rattle.texts.proofs.Steps.{Reading, empty_line, no_word, line_done, line_more, line_broken}
 use Rattle.texts.proofs.lexer.Lexer.line.Goals as goal
 
 pub returns-then-eat : goal.returns-then-eat
 returns-then-eat c =
     subst (λ l. LinePassed c.args.self.now l c.eat.new.self) (sym c.new-words.ensures.items) (empty_line c.if-eat.ensures)
-
-pub loop-word-init : goal.loop-word-init
-loop-word-init c =
-    let l = c.eat.new.self in
-    subst (Reading l l) (sym c.new-words.ensures.items) (line_start c.if-eat.ensures)
 
 pub returns-in_default : goal.returns-in_default
 returns-in_default c = subst (λ (l : Lexer). NoLine (left l)) c.if-eat.ensures.same (no_word c.loop-word.invariant c.in_default.ensures)
@@ -26,16 +21,13 @@ returns-then-eat-2 c =
     subst (λ (l : Lexer). LinePassed l (vec_items c.push.new.self) new) c.if-eat.ensures.same
     (subst (λ l. LinePassed c.eat.new.self l new) (sym pushed) done)
 
-pub returns-then-not-eat : goal.returns-then-not-eat
-returns-then-not-eat c =
+pub returns-then-not-space : goal.returns-then-not-space
+returns-then-not-space c =
     subst (λ (l : Lexer). NoLine (left l)) c.if-eat.ensures.same
-    (line_broken c.loop-word.invariant c.in-Some.ensures c.if-eat-2.ensures c.if-not-eat.ensures)
-
-pub loop-word-smaller : goal.loop-word-smaller
-loop-word-smaller c = less_left c.loop-word.invariant c.in-Some.ensures c.if-eat-2.ensures c.if-not-eat.ensures
+    (line_broken c.loop-word.invariant c.in-Some.ensures c.if-eat-2.ensures c.if-not-space.ensures)
 
 pub loop-word-preserved : goal.loop-word-preserved
 loop-word-preserved c =
     let pushed = chosen _ _ _ _ c.push.ensures.items (ap is_ok c.in_ok-push.was) in
-    subst (Reading c.eat.new.self c.eat-in-loop-word-2.new.self) (sym pushed)
-    (line_more c.loop-word.invariant c.in-Some.ensures c.if-eat-2.ensures c.if-not-eat.ensures)
+    subst (Reading c.eat.new.self c.space.new.self) (sym pushed)
+    (line_more c.loop-word.invariant c.in-Some.ensures c.if-eat-2.ensures c.if-not-space.ensures)

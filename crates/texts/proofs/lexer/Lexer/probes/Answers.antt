@@ -1,25 +1,8 @@
-use Rattle.std.proofs.Common.{map, vec_items, subst}
-use Rattle.std.specs.declared.alloc.Global.{Global}
+use Rattle.std.proofs.Common.{vec_items, rules}
 use Rattle.grammar.specs.Plans.{ProbesFit, probe_words}
-use Rattle.grammar.specs.Scans.{Says}
 use Rattle.grammar.proofs.Forms.{probes_small}
-use Rattle.texts.specs.Words.{token_of, LineRead}
-use Rattle.texts.proofs.Parses.{no_line, line_says}
+use Rattle.texts.proofs.Parses.{line_parsed}
 use Rattle.texts.proofs.lexer.Lexer.probes.Goals as goal
 
-pub returns-in_default : goal.returns-in_default
-returns-in_default c =
-    let old = c.args.self.now in
-    let new = c.line.new.self in
-    let none = subst (λ o. LineRead old o new) c.in_default.is c.in_ok-words.ensures in
-    no_line ProbesFit probe_words (vec_items {Z = Global}) probes_small old new c.bad_line-bad.result c.bad_line-bad.ensures none
-
 pub returns : goal.returns
-returns c =
-    let old = c.args.self.now in
-    let new = c.line.new.self in
-    let line = subst (λ o. LineRead old o new) c.in-Some.is c.in_ok-words.ensures in
-    let o = c.in_ok-probes.field-0 in
-    line_says ProbesFit probe_words vec_items probes_small old new c.bad_line-bad.result c.bad_line-bad.ensures (vec_items c.in-Some.words) o c.ok_or.result line
-    (subst (λ l. Says ProbesFit probe_words vec_items (map token_of l) o) c.as_slice.ensures.value c.in_ok-probes.ensures)
-    c.ok_or.ensures.value
+returns c = line_parsed ProbesFit probe_words vec_items probes_small c.in_form.ensures (λ ws o s. search rules)
