@@ -11,16 +11,7 @@ pub(crate) fn word_at(mem: &[u8], at: usize) -> u64
     requires { at + 8 ≤ length mem.now }
     ensures { result ≡ word mem.now at }
 {
-    u64::from_le_bytes([
-        mem[at],
-        mem[at + 1],
-        mem[at + 2],
-        mem[at + 3],
-        mem[at + 4],
-        mem[at + 5],
-        mem[at + 6],
-        mem[at + 7],
-    ])
+    u64::from_le_bytes(mem[at..at + 8].try_into().unwrap())
 }
 
 // The sum of the words of block `b` before its check, modulo 2^64.
@@ -47,14 +38,7 @@ pub(crate) fn put_word(mem: &mut [u8], at: usize, w: u64)
     requires { at + 8 ≤ length mem.old }
     ensures { mem.new ≡ put mem.old at w }
 {
-    mem[at] = (w % 256) as u8;
-    mem[at + 1] = (w / 256 % 256) as u8;
-    mem[at + 2] = (w / 65536 % 256) as u8;
-    mem[at + 3] = (w / 16777216 % 256) as u8;
-    mem[at + 4] = (w / 4294967296 % 256) as u8;
-    mem[at + 5] = (w / 1099511627776 % 256) as u8;
-    mem[at + 6] = (w / 281474976710656 % 256) as u8;
-    mem[at + 7] = (w / 72057594037927936 % 256) as u8;
+    mem[at..at + 8].copy_from_slice(&w.to_le_bytes());
 }
 
 // Word `j` of block `b` becomes `w`, and the block's check moves by the difference.
