@@ -1,11 +1,13 @@
 // Words in bytes, and the check of a block.
-ghost use Rattle.std.specs.Prelude.{◌≡◌, ◌+◌, ◌*◌, ◌%◌, ◌^◌, ◌<◌, ◌≤◌, length};
+ghost use Rattle.std.specs.Prelude.{◌≡◌, ◌==◌, ◌+◌, ◌*◌, ◌%◌, ◌^◌, ◌<◌, ◌≤◌, length};
 ghost use Rattle.layout.specs.Words.{word, put};
-ghost use Rattle.layout.specs.Blocks.{place, sum_words, check_of, stored};
+ghost use Rattle.layout.specs.Blocks.{sum_words, stored};
 
 pub(crate) const BLOCK_BYTES: usize = 512;
 // The word of a block that is its check.
 pub(crate) const CHECK_WORD: usize = 63;
+
+pub(crate) type Block = [u8; BLOCK_BYTES];
 
 pub(crate) fn word_at(mem: &[u8], at: usize) -> u64
     requires { at + 8 ≤ length mem.now }
@@ -14,24 +16,22 @@ pub(crate) fn word_at(mem: &[u8], at: usize) -> u64
     u64::from_le_bytes(mem[at..at + 8].try_into().unwrap())
 }
 
-// The sum of the words of block `b` before its check, modulo 2^64.
-fn sum_words(mem: &[u8], b: usize) -> u64
-    requires { 512 * b + 512 ≤ length mem.now }
-    ensures { result ≡ sum_words mem.now b 63 % 2 ^ 64 }
+// The sum of the words of a block before its check, modulo 2^64.
+fn sum_words(block: &Block) -> u64
+    ensures { result ≡ sum_words block.now 0 63 % 2 ^ 64 }
 {
-    let mut sum = 0u64;
-    for j in 0..CHECK_WORD {
-        sum = sum.wrapping_add(word_at(mem, BLOCK_BYTES * b + 8 * j));
-    }
-    sum
+    let (words, _) = block.as_chunks::<8>();
+    words[..CHECK_WORD].iter().fold(0, |sum: u64, word| {
+        sum.wrapping_add(u64::from_le_bytes(*word))
+    })
 }
 
-// The check that block `b` has to have.
-pub(crate) fn check_of(mem: &[u8], b: usize) -> u64
-    requires { 512 * b + 512 ≤ length mem.now }
-    ensures { result ≡ check_of mem.now b }
+// Whether a block that is block `b` of a memory has its check.
+pub(crate) fn has_check(block: &Block, b: usize) -> bool
+    ensures { result ≡ (word block.now 504 == (b + 1 + sum_words block.now 0 63) % 2 ^ 64) }
 {
-    sum_words(mem, b).wrapping_add(b as u64).wrapping_add(1)
+    let check = sum_words(block).wrapping_add(b as u64).wrapping_add(1);
+    word_at(block, 8 * CHECK_WORD) == check
 }
 
 pub(crate) fn put_word(mem: &mut [u8], at: usize, w: u64)
