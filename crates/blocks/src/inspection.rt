@@ -12,7 +12,7 @@ use stores::MAX_CELLS;
 pub(crate) fn is_fit(size: usize, n: usize) -> bool
     ensures { result ≡ fit size n }
 {
-    1 <= n && n <= MAX_CELLS && size == BLOCK_BYTES * (1 + (n + BLOCK_CELLS - 1) / BLOCK_CELLS)
+    (1..=MAX_CELLS).contains(&n) && size == BLOCK_BYTES * (1 + n.div_ceil(BLOCK_CELLS))
 }
 
 // Whether a memory of `size` bytes is that of `n` cells.
@@ -31,18 +31,12 @@ pub fn inspect(mem: &[u8], n: usize) -> Result<(), BlockFault>
     ensures verdict { Inspected mem.now n result }
     ensures image { (s : Contents ℕ) → IsImage mem.now n s → result ≡ Ok tt }
 {
-    verdict(mem, n)
-}
-
-fn verdict(mem: &[u8], n: usize) -> Result<(), BlockFault>
-    ensures verdict { Inspected mem.now n result }
-    ensures image { (s : Contents ℕ) → IsImage mem.now n s → result ≡ Ok tt }
-{
     check_blocks(mem, n)
 }
 
 fn check_blocks(mem: &[u8], n: usize) -> Result<(), BlockFault>
-    ensures { Inspected mem.now n result }
+    ensures verdict { Inspected mem.now n result }
+    ensures image { (s : Contents ℕ) → IsImage mem.now n s → result ≡ Ok tt }
 {
     fits(mem.len(), n)?;
     let (blocks, _) = mem.as_chunks();

@@ -75,17 +75,17 @@ impl<'a, I: ItemKind> Store for BlockMemory<'a, I> {
 
     fn item(&self, i: usize) -> Result<I, StoreFault> {
         check_cell(self.cells(), i)?;
-        Ok(slices::item_in(self.mem, self.n, i))
+        Ok(slices::cell_in::<I>(self.mem, self.n, i).item)
     }
 
     fn rank(&self, i: usize) -> Result<i64, StoreFault> {
         check_cell(self.cells(), i)?;
-        Ok(slices::rank_in::<I>(self.mem, self.n, i))
+        Ok(slices::cell_in::<I>(self.mem, self.n, i).rank)
     }
 
     fn gap(&self, i: usize) -> Result<i64, StoreFault> {
         check_cell(self.cells(), i)?;
-        Ok(slices::gap_in::<I>(self.mem, self.n, i))
+        Ok(slices::cell_in::<I>(self.mem, self.n, i).gap)
     }
 
     fn put_item(&mut self, i: usize, item: I) -> Result<(), StoreFault> {

@@ -7,10 +7,10 @@ ghost use Rattle.layout.specs.Decoding.{cell_block, cell_word, block_model, Imag
 
 use crate::clearing::Clearing;
 use crate::inspection::is_fit;
-use crate::reading::{BLOCK_CELLS, part_at};
+use crate::reading::{BLOCK_CELLS, cell_at};
 use crate::words::{store_word, word_at};
 use items::ItemKind;
-use stores::MAX_HEAD;
+use stores::{Cell, MAX_HEAD};
 
 pub(crate) fn cells_in<I: ItemKind>(mem: &[u8], n: usize) -> usize
     ensures { result ≡ size (block_model I.ItemKind.item n mem.now) }
@@ -39,25 +39,11 @@ pub(crate) fn end_in<I: ItemKind>(mem: &[u8], n: usize) -> i64
     }
 }
 
-pub(crate) fn item_in<I: ItemKind>(mem: &[u8], n: usize, i: usize) -> I
+pub(crate) fn cell_in<I: ItemKind>(mem: &[u8], n: usize, i: usize) -> Cell<I>
     requires { i < size (block_model I.ItemKind.item n mem.now) }
-    ensures { result ≡ (cell_of I.ItemKind.blank (block_model I.ItemKind.item n mem.now) i).item }
+    ensures { result ≡ cell_of I.ItemKind.blank (block_model I.ItemKind.item n mem.now) i }
 {
-    I::decode(part_at(mem, i, 0))
-}
-
-pub(crate) fn rank_in<I: ItemKind>(mem: &[u8], n: usize, i: usize) -> i64
-    requires { i < size (block_model I.ItemKind.item n mem.now) }
-    ensures { result ≡ (cell_of I.ItemKind.blank (block_model I.ItemKind.item n mem.now) i).rank }
-{
-    part_at(mem, i, 1).cast_signed()
-}
-
-pub(crate) fn gap_in<I: ItemKind>(mem: &[u8], n: usize, i: usize) -> i64
-    requires { i < size (block_model I.ItemKind.item n mem.now) }
-    ensures { result ≡ (cell_of I.ItemKind.blank (block_model I.ItemKind.item n mem.now) i).gap }
-{
-    part_at(mem, i, 2).cast_signed()
+    cell_at(mem, i)
 }
 
 // Word `part` of cell `i` becomes `w`.
