@@ -4,7 +4,7 @@ ghost use Rattle.layout.specs.Blocks.{fit};
 ghost use Rattle.layout.specs.Decoding.{Imaged, Imaged-prop};
 ghost use Rattle.blocks.specs.Models.{made_model};
 
-use crate::slices;
+use crate::slices::{self, Part};
 use items::ItemKind;
 use std::marker::PhantomData;
 use stores::{MAX_HEAD, Store, StoreFault, check_cell, check_some, check_start};
@@ -91,21 +91,21 @@ impl<'a, I: ItemKind> Store for BlockMemory<'a, I> {
     fn put_item(&mut self, i: usize, item: I) -> Result<(), StoreFault> {
         check_cell(self.cells(), i)?;
         let n = self.n;
-        slices::put_item_in(self.mem, n, i, item);
+        slices::put_in(self.mem, n, i, Part::Item(item));
         Ok(())
     }
 
     fn put_rank(&mut self, i: usize, rank: i64) -> Result<(), StoreFault> {
         check_cell(self.cells(), i)?;
         let n = self.n;
-        slices::put_rank_in::<I>(self.mem, n, i, rank);
+        slices::put_in::<I>(self.mem, n, i, Part::Rank(rank));
         Ok(())
     }
 
     fn put_gap(&mut self, i: usize, gap: i64) -> Result<(), StoreFault> {
         check_cell(self.cells(), i)?;
         let n = self.n;
-        slices::put_gap_in::<I>(self.mem, n, i, gap);
+        slices::put_in::<I>(self.mem, n, i, Part::Gap(gap));
         Ok(())
     }
 

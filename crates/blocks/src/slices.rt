@@ -1,8 +1,8 @@
 // The calls of a block memory, over its bytes: what each makes of the model.
 ghost use Rattle.std.specs.Prelude.{◌≡◌, ℕ, ◌+◌, ◌*◌, ◌/◌, ◌^◌, ◌<◌, ◌≤◌, true, false, length};
-ghost use Rattle.stores.specs.Model.{size, cell_of, with_item, with_rank, with_gap, with_head, with_end, cleared};
+ghost use Rattle.stores.specs.Model.{size, cell_of, with_head, with_end, cleared};
 ghost use Rattle.layout.specs.Blocks.{fit, stored};
-ghost use Rattle.blocks.specs.Models.{made_model};
+ghost use Rattle.blocks.specs.Models.{made_model, with_part};
 ghost use Rattle.layout.specs.Decoding.{cell_block, cell_word, block_model, Imaged};
 
 use crate::clearing::Clearing;
@@ -46,6 +46,14 @@ pub(crate) fn cell_in<I: ItemKind>(mem: &[u8], n: usize, i: usize) -> Cell<I>
     cell_at(mem, i)
 }
 
+// A part of a cell, and what it becomes.
+#[derive(Clone, Copy)]
+pub(crate) enum Part<I> {
+    Item(I),
+    Rank(i64),
+    Gap(i64),
+}
+
 // Word `part` of cell `i` becomes `w`.
 fn put_part(mem: &mut [u8], i: usize, part: usize, w: u64)
     requires block { 512 * (i / 21) + 1024 ≤ length mem.old }
@@ -55,28 +63,16 @@ fn put_part(mem: &mut [u8], i: usize, part: usize, w: u64)
     store_word(mem, 1 + i / BLOCK_CELLS, 3 * (i % BLOCK_CELLS) + part, w);
 }
 
-pub(crate) fn put_item_in<I: ItemKind>(mem: &mut [u8], n: usize, i: usize, item: I)
+pub(crate) fn put_in<I: ItemKind>(mem: &mut [u8], n: usize, i: usize, part: Part<I>)
     requires { i < size (block_model I.ItemKind.item n mem.old) }
-    ensures model { block_model I.ItemKind.item n mem.new ≡ with_item I.ItemKind.blank (block_model I.ItemKind.item n mem.old) i item }
+    ensures model { block_model I.ItemKind.item n mem.new ≡ with_part I.ItemKind.blank (block_model I.ItemKind.item n mem.old) i part }
     ensures image { Imaged I.ItemKind.word I.ItemKind.item n mem.old → Imaged I.ItemKind.word I.ItemKind.item n mem.new }
 {
-    put_part(mem, i, 0, item.encode());
-}
-
-pub(crate) fn put_rank_in<I: ItemKind>(mem: &mut [u8], n: usize, i: usize, rank: i64)
-    requires { i < size (block_model I.ItemKind.item n mem.old) }
-    ensures model { block_model I.ItemKind.item n mem.new ≡ with_rank I.ItemKind.blank (block_model I.ItemKind.item n mem.old) i rank }
-    ensures image { Imaged I.ItemKind.word I.ItemKind.item n mem.old → Imaged I.ItemKind.word I.ItemKind.item n mem.new }
-{
-    put_part(mem, i, 1, rank.cast_unsigned());
-}
-
-pub(crate) fn put_gap_in<I: ItemKind>(mem: &mut [u8], n: usize, i: usize, gap: i64)
-    requires { i < size (block_model I.ItemKind.item n mem.old) }
-    ensures model { block_model I.ItemKind.item n mem.new ≡ with_gap I.ItemKind.blank (block_model I.ItemKind.item n mem.old) i gap }
-    ensures image { Imaged I.ItemKind.word I.ItemKind.item n mem.old → Imaged I.ItemKind.word I.ItemKind.item n mem.new }
-{
-    put_part(mem, i, 2, gap.cast_unsigned());
+    match part {
+        Part::Item(item) => put_part(mem, i, 0, item.encode()),
+        Part::Rank(rank) => put_part(mem, i, 1, rank.cast_unsigned()),
+        Part::Gap(gap) => put_part(mem, i, 2, gap.cast_unsigned()),
+    }
 }
 
 pub(crate) fn set_head_in<I: ItemKind>(mem: &mut [u8], n: usize, head: u64)
