@@ -90,29 +90,25 @@ impl<'a, I: ItemKind> Store for BlockMemory<'a, I> {
 
     fn put_item(&mut self, i: usize, item: I) -> Result<(), StoreFault> {
         check_cell(self.cells(), i)?;
-        let n = self.n;
-        slices::put_in(self.mem, n, i, Part::Item(item));
+        slices::put_in(self.mem, self.n, i, Part::Item(item));
         Ok(())
     }
 
     fn put_rank(&mut self, i: usize, rank: i64) -> Result<(), StoreFault> {
         check_cell(self.cells(), i)?;
-        let n = self.n;
-        slices::put_in::<I>(self.mem, n, i, Part::Rank(rank));
+        slices::put_in::<I>(self.mem, self.n, i, Part::Rank(rank));
         Ok(())
     }
 
     fn put_gap(&mut self, i: usize, gap: i64) -> Result<(), StoreFault> {
         check_cell(self.cells(), i)?;
-        let n = self.n;
-        slices::put_in::<I>(self.mem, n, i, Part::Gap(gap));
+        slices::put_in::<I>(self.mem, self.n, i, Part::Gap(gap));
         Ok(())
     }
 
     fn set_end(&mut self, mark: i64) -> Result<(), StoreFault> {
         check_some(self.cells())?;
-        let n = self.n;
-        slices::set_end_in::<I>(self.mem, n, mark);
+        slices::set_end_in::<I>(self.mem, self.n, mark);
         Ok(())
     }
 
@@ -122,15 +118,13 @@ impl<'a, I: ItemKind> Store for BlockMemory<'a, I> {
         if rank == MAX_HEAD {
             return Err(StoreFault::RanksUsedUp);
         }
-        let n = self.n;
-        slices::set_head_in::<I>(self.mem, n, rank + 1);
+        slices::set_head_in::<I>(self.mem, self.n, rank + 1);
         Ok(rank)
     }
 
     fn clear(&mut self, start: u64) -> Result<(), StoreFault> {
         check_start(self.cells(), start)?;
-        let n = self.n;
-        slices::clear_in::<I>(self.mem, n, start);
+        slices::clear_in::<I>(self.mem, self.n, start);
         Ok(())
     }
 }
