@@ -8,12 +8,9 @@ returns-in-Some c =
     let first = bad_check c.args.mem.now c.args.n (search rules) _ 512 refl c.as_chunks.ensures.front c.as_chunks.ensures.front_len _ c.in-Some.ensures in
     record { verdict = first; image = λ s i. image_passes c.args.mem.now c.args.n s _ i first }
 
-pub returns-in-None : goal.returns-in-None
-returns-in-None c =
-    record {
-      verdict = all_checked c.args.mem.now c.args.n (search rules) _ 512 refl c.as_chunks.ensures.front c.as_chunks.ensures.front_len c.in-None.ensures;
-      image = λ s i. refl;
-    }
+pub returns-in-None-clause-verdict : goal.returns-in-None-clause-verdict
+returns-in-None-clause-verdict c =
+    all_checked c.args.mem.now c.args.n (search rules) _ 512 refl c.as_chunks.ensures.front c.as_chunks.ensures.front_len c.in-None.ensures
 
 pub returns-in_err-fits-clause-image : goal.returns-in_err-fits-clause-image
 returns-in_err-fits-clause-image c = λ s i. image_passes c.args.mem.now c.args.n s c.from_residual.result i (search rules)

@@ -1,17 +1,11 @@
-use Rattle.std.proofs.Common.{◌≤◌, ◌+◌, ◌%◌, ◌/◌, ◌^◌, length, take, refl, ap, ◌∙◌, rules, tests, arith}
+use Rattle.std.proofs.Common.{◌+◌, ◌%◌, ◌/◌, ◌^◌, length, take, refl, ap, ◌∙◌, rules, tests, arith}
 use Rattle.std.specs.Int.{w64, from_le_bytes}
 use Rattle.std.specs.List.{fold}
-use Rattle.std.proofs.lemmas.List.{length-take-le}
 use Rattle.std.proofs.lemmas.Iterator.{YieldsList-from_slice}
 use Rattle.std.proofs.lemmas.Iterator.Consumers.{fold_from_yields_List}
 use Rattle.layout.proofs.Sums.{sum_none}
 use Rattle.layout.proofs.Conversions.{sum_read}
 use Rattle.blocks.proofs.words.sum_words.Goals as goal
-
-pub slice_bounds-iter-end : goal.slice_bounds-iter-end
-slice_bounds-iter-end c =
-    let whole : 63 ≤ length c.as_chunks.result.0.now = omega (arith, c.as_chunks.ensures.front_len) in
-    search (rules, length-take-le)
 
 pub returns : goal.returns
 returns c =
