@@ -1,4 +1,5 @@
-// A memory cleared at a start, word by word from its first.
+// A memory cleared at a start, word by word from its first. Blocks and words go by number: std says
+// nothing of a memory that is written through its chunks.
 ghost use Rattle.std.specs.Prelude.{◌≡◌, ℕ, ◌+◌, ◌*◌, ◌^◌, ◌<◌, ◌≤◌, true, length};
 ghost use Rattle.stores.specs.Model.{cleared};
 ghost use Rattle.layout.specs.Blocks.{fit};
@@ -67,7 +68,6 @@ impl Clearing {
         requires { fit (length mem.old) self.cells ≡ true }
         ensures { mem.new ≡ image (cleared self.blank self.cells self.start) }
     {
-        // By number: std says nothing of a memory that is written through its chunks.
         for b in 0..mem.len() / BLOCK_BYTES {
             self.write_block(mem, b);
         }

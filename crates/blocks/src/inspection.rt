@@ -46,6 +46,7 @@ fn check_blocks(mem: &[u8], n: usize) -> Result<(), BlockFault>
     }
 }
 
+// The first block without its check.
 fn first_unchecked(blocks: &[Block]) -> Option<usize>
     ensures { FirstUnchecked blocks.now result }
 {

@@ -100,13 +100,12 @@ fn write_cleared<I: ItemKind>(mem: &mut [u8], n: usize, start: u64)
     ensures model { block_model I.ItemKind.item n mem.new ≡ cleared I.ItemKind.blank n start }
     ensures image { Imaged I.ItemKind.word I.ItemKind.item n mem.new }
 {
-    let blank = I::blank().encode();
-    let clearing = Clearing {
+    Clearing {
         cells: n,
         start,
-        blank,
-    };
-    clearing.write(mem);
+        blank: I::blank().encode(),
+    }
+    .write(mem);
 }
 
 pub(crate) fn clear_in<I: ItemKind>(mem: &mut [u8], n: usize, start: u64)
