@@ -1,7 +1,8 @@
 -- What the fit question and the inspection of a memory answer.
-use Rattle.std.specs.Prelude.{◌≡◌, ℕ, ◌<◌, ◌≤◌, true, false, cond, List, length, Ok, Err, Result}
+use Rattle.std.specs.Prelude.{◌≡◌, ℕ, ◌+◌, ◌%◌, ◌^◌, ◌<◌, ◌≤◌, true, false, cond, List, [], length, slice_index_or, Ok, Err, Result, Option, MatchOption}
 use Rattle.stores.specs.Model.{Contents, size}
-use Rattle.layout.specs.Blocks.{fit, blocks_for, Checked}
+use Rattle.layout.specs.Words.{word}
+use Rattle.layout.specs.Blocks.{fit, blocks_for, sum_words, Checked}
 use Rattle.layout.specs.Image.{image}
 use Rattle.blocks.specs.declared.fault.BlockFault.{BlockFault}
 use Rattle.blocks.specs.declared.fault.BlockFault.TheVariants.{Unfit, BadCheck}
@@ -22,3 +23,13 @@ pub record IsImage (m : List ℕ) (n : ℕ) (s : Contents ℕ) : Type 0 where
   pub some : 0 < n
   pub most : n ≤ 65536
   pub bytes : m ≡ image s
+
+-- the list that is block b of a memory has its check
+abbrev pub HasCheck : List (List ℕ) → ℕ → Type 0
+HasCheck blocks b = word (slice_index_or blocks b []) 504 ≡ (b + 1 + sum_words (slice_index_or blocks b []) 0 63) % 2 ^ 64
+
+-- r is the first block that has not its check
+abbrev pub FirstUnchecked : List (List ℕ) → Option ℕ → Type 0
+FirstUnchecked blocks r =
+    MatchOption r ((b : ℕ) → b < length blocks → HasCheck blocks b)
+    (λ b. (b < length blocks) × (HasCheck blocks b → ⊥) × ((a : ℕ) → a < b → HasCheck blocks a))

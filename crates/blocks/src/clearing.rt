@@ -1,9 +1,11 @@
-// A memory cleared at a start, word by word from its first.
+// A memory cleared at a start, word by word from its first. Blocks and words go by number: std says
+// nothing of a memory that is written through its chunks.
 ghost use Rattle.std.specs.Prelude.{◌≡◌, ℕ, ◌+◌, ◌*◌, ◌^◌, ◌<◌, ◌≤◌, true, length};
 ghost use Rattle.stores.specs.Model.{cleared};
 ghost use Rattle.layout.specs.Blocks.{fit};
 ghost use Rattle.layout.specs.Image.{plain, image, Written};
 
+use crate::reading::BLOCK_CELLS;
 use crate::words::{BLOCK_BYTES, CHECK_WORD, put_word};
 
 // What is cleared: so many cells, at this start; `blank` is the word of the blank item.
@@ -15,16 +17,16 @@ pub(crate) struct Clearing {
 }
 
 impl Clearing {
-    // Word `j` of block `b`, but for the check.
+    // Word `j` of block `b`, but for the check: a cell has the blank item, rank -1 and gap -1, and
+    // zeros stand past the last.
     fn word(self, b: usize, j: usize) -> u64
         requires block { b < 2 ^ 20 }
         requires plain { j < 63 }
         ensures { result ≡ plain (cleared self.blank self.cells self.start) b j }
     {
         if b == 0 {
-            return self.counter(j);
-        }
-        if 21 * (b - 1) + j / 3 >= self.cells {
+            self.counter(j)
+        } else if BLOCK_CELLS * (b - 1) + j / 3 >= self.cells {
             0
         } else if j % 3 == 0 {
             self.blank

@@ -2,17 +2,17 @@
 ghost use Rattle.std.specs.Prelude.{◌≡◌, ℕ, length, Ok};
 ghost use Rattle.stores.specs.Model.{Contents};
 ghost use Rattle.layout.specs.Blocks.{fit};
-ghost use Rattle.blocks.specs.Inspection.{fit_answer, Inspected, IsImage};
+ghost use Rattle.blocks.specs.Inspection.{fit_answer, Inspected, IsImage, FirstUnchecked};
 
 use crate::fault::BlockFault;
 use crate::reading::BLOCK_CELLS;
-use crate::words::{BLOCK_BYTES, CHECK_WORD, check_of, word_at};
+use crate::words::{BLOCK_BYTES, Block, has_check};
 use stores::MAX_CELLS;
 
 pub(crate) fn is_fit(size: usize, n: usize) -> bool
     ensures { result ≡ fit size n }
 {
-    1 <= n && n <= MAX_CELLS && size == BLOCK_BYTES * (1 + (n + BLOCK_CELLS - 1) / BLOCK_CELLS)
+    (1..=MAX_CELLS).contains(&n) && size == BLOCK_BYTES * (1 + n.div_ceil(BLOCK_CELLS))
 }
 
 // Whether a memory of `size` bytes is that of `n` cells.
@@ -31,24 +31,27 @@ pub fn inspect(mem: &[u8], n: usize) -> Result<(), BlockFault>
     ensures verdict { Inspected mem.now n result }
     ensures image { (s : Contents ℕ) → IsImage mem.now n s → result ≡ Ok tt }
 {
-    verdict(mem, n)
-}
-
-fn verdict(mem: &[u8], n: usize) -> Result<(), BlockFault>
-    ensures verdict { Inspected mem.now n result }
-    ensures image { (s : Contents ℕ) → IsImage mem.now n s → result ≡ Ok tt }
-{
     check_blocks(mem, n)
 }
 
 fn check_blocks(mem: &[u8], n: usize) -> Result<(), BlockFault>
-    ensures { Inspected mem.now n result }
+    ensures verdict { Inspected mem.now n result }
+    ensures image { (s : Contents ℕ) → IsImage mem.now n s → result ≡ Ok tt }
 {
     fits(mem.len(), n)?;
-    for b in 0..mem.len() / BLOCK_BYTES {
-        if word_at(mem, BLOCK_BYTES * b + 8 * CHECK_WORD) != check_of(mem, b) {
-            return Err(BlockFault::BadCheck(b));
-        }
+    let (blocks, _) = mem.as_chunks();
+    match first_unchecked(blocks) {
+        Some(b) => Err(BlockFault::BadCheck(b)),
+        None => Ok(()),
     }
-    Ok(())
+}
+
+// The first block without its check.
+fn first_unchecked(blocks: &[Block]) -> Option<usize>
+    ensures { FirstUnchecked blocks.now result }
+{
+    blocks
+        .iter()
+        .enumerate()
+        .position(|(b, block)| !has_check(block, b))
 }

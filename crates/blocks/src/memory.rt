@@ -4,7 +4,7 @@ ghost use Rattle.layout.specs.Blocks.{fit};
 ghost use Rattle.layout.specs.Decoding.{Imaged, Imaged-prop};
 ghost use Rattle.blocks.specs.Models.{made_model};
 
-use crate::slices;
+use crate::slices::{self, Part};
 use items::ItemKind;
 use std::marker::PhantomData;
 use stores::{MAX_HEAD, Store, StoreFault, check_cell, check_some, check_start};
@@ -75,44 +75,40 @@ impl<'a, I: ItemKind> Store for BlockMemory<'a, I> {
 
     fn item(&self, i: usize) -> Result<I, StoreFault> {
         check_cell(self.cells(), i)?;
-        Ok(slices::item_in(self.mem, self.n, i))
+        Ok(slices::cell_in::<I>(self.mem, self.n, i).item)
     }
 
     fn rank(&self, i: usize) -> Result<i64, StoreFault> {
         check_cell(self.cells(), i)?;
-        Ok(slices::rank_in::<I>(self.mem, self.n, i))
+        Ok(slices::cell_in::<I>(self.mem, self.n, i).rank)
     }
 
     fn gap(&self, i: usize) -> Result<i64, StoreFault> {
         check_cell(self.cells(), i)?;
-        Ok(slices::gap_in::<I>(self.mem, self.n, i))
+        Ok(slices::cell_in::<I>(self.mem, self.n, i).gap)
     }
 
     fn put_item(&mut self, i: usize, item: I) -> Result<(), StoreFault> {
         check_cell(self.cells(), i)?;
-        let n = self.n;
-        slices::put_item_in(self.mem, n, i, item);
+        slices::put_in(self.mem, self.n, i, Part::Item(item));
         Ok(())
     }
 
     fn put_rank(&mut self, i: usize, rank: i64) -> Result<(), StoreFault> {
         check_cell(self.cells(), i)?;
-        let n = self.n;
-        slices::put_rank_in::<I>(self.mem, n, i, rank);
+        slices::put_in::<I>(self.mem, self.n, i, Part::Rank(rank));
         Ok(())
     }
 
     fn put_gap(&mut self, i: usize, gap: i64) -> Result<(), StoreFault> {
         check_cell(self.cells(), i)?;
-        let n = self.n;
-        slices::put_gap_in::<I>(self.mem, n, i, gap);
+        slices::put_in::<I>(self.mem, self.n, i, Part::Gap(gap));
         Ok(())
     }
 
     fn set_end(&mut self, mark: i64) -> Result<(), StoreFault> {
         check_some(self.cells())?;
-        let n = self.n;
-        slices::set_end_in::<I>(self.mem, n, mark);
+        slices::set_end_in::<I>(self.mem, self.n, mark);
         Ok(())
     }
 
@@ -122,15 +118,13 @@ impl<'a, I: ItemKind> Store for BlockMemory<'a, I> {
         if rank == MAX_HEAD {
             return Err(StoreFault::RanksUsedUp);
         }
-        let n = self.n;
-        slices::set_head_in::<I>(self.mem, n, rank + 1);
+        slices::set_head_in::<I>(self.mem, self.n, rank + 1);
         Ok(rank)
     }
 
     fn clear(&mut self, start: u64) -> Result<(), StoreFault> {
         check_start(self.cells(), start)?;
-        let n = self.n;
-        slices::clear_in::<I>(self.mem, n, start);
+        slices::clear_in::<I>(self.mem, self.n, start);
         Ok(())
     }
 }

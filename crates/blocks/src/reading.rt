@@ -3,7 +3,7 @@ ghost use Rattle.std.specs.Prelude.{◌≡◌, ◌+◌, ◌*◌, ◌/◌, ◌%�
 ghost use Rattle.std.specs.Int.{w64};
 ghost use Rattle.std.proofs.Common.{to_z};
 ghost use Rattle.layout.specs.Words.{word};
-ghost use Rattle.layout.specs.Decoding.{part_in};
+ghost use Rattle.layout.specs.Decoding.{part_in, cell_in};
 ghost use Rattle.blocks.specs.Readings.{header_answer, cell_answer};
 
 use crate::words::{BLOCK_BYTES, word_at};
@@ -25,10 +25,7 @@ pub struct Header {
 pub fn stored_header(mem: &[u8]) -> Option<Header>
     ensures { result ≡ header_answer mem.now }
 {
-    if mem.len() < BLOCK_BYTES {
-        return None;
-    }
-    Some(Header {
+    (BLOCK_BYTES <= mem.len()).then(|| Header {
         cells: word_at(mem, 0),
         head: word_at(mem, 8),
         end: word_at(mem, 16).cast_signed(),
@@ -36,7 +33,7 @@ pub fn stored_header(mem: &[u8]) -> Option<Header>
 }
 
 // Word `part` of cell `i`.
-pub(crate) fn part_at(mem: &[u8], i: usize, part: usize) -> u64
+fn part_at(mem: &[u8], i: usize, part: usize) -> u64
     requires block { 512 * (i / 21) + 1024 ≤ length mem.now }
     requires part { part < 3 }
     ensures { result ≡ part_in mem.now i part }
@@ -47,16 +44,21 @@ pub(crate) fn part_at(mem: &[u8], i: usize, part: usize) -> u64
     )
 }
 
+// Cell `i`.
+pub(crate) fn cell_at<I: ItemKind>(mem: &[u8], i: usize) -> Cell<I>
+    requires { 512 * (i / 21) + 1024 ≤ length mem.now }
+    ensures { result ≡ cell_in I.ItemKind.item mem.now i }
+{
+    Cell {
+        item: I::decode(part_at(mem, i, 0)),
+        rank: part_at(mem, i, 1).cast_signed(),
+        gap: part_at(mem, i, 2).cast_signed(),
+    }
+}
+
 // Cell `i`, if its block lies whole in the memory.
 pub fn stored_cell<I: ItemKind>(mem: &[u8], i: usize) -> Option<Cell<I>>
     ensures { result ≡ cell_answer I.ItemKind.item mem.now i }
 {
-    if 1 + i / BLOCK_CELLS >= mem.len() / BLOCK_BYTES {
-        return None;
-    }
-    Some(Cell {
-        item: I::decode(part_at(mem, i, 0)),
-        rank: part_at(mem, i, 1).cast_signed(),
-        gap: part_at(mem, i, 2).cast_signed(),
-    })
+    (1 + i / BLOCK_CELLS < mem.len() / BLOCK_BYTES).then(|| cell_at(mem, i))
 }

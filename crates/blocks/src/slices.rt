@@ -1,16 +1,17 @@
-// The calls of a block memory, over its bytes: what each makes of the model.
+// The calls of a block memory, over its bytes: what each makes of the model. As methods, those that
+// write would each have to say again that the bytes stay those that were lent.
 ghost use Rattle.std.specs.Prelude.{◌≡◌, ℕ, ◌+◌, ◌*◌, ◌/◌, ◌^◌, ◌<◌, ◌≤◌, true, false, length};
-ghost use Rattle.stores.specs.Model.{size, cell_of, with_item, with_rank, with_gap, with_head, with_end, cleared};
+ghost use Rattle.stores.specs.Model.{size, cell_of, with_head, with_end, cleared};
 ghost use Rattle.layout.specs.Blocks.{fit, stored};
-ghost use Rattle.blocks.specs.Models.{made_model};
+ghost use Rattle.blocks.specs.Models.{made_model, with_part};
 ghost use Rattle.layout.specs.Decoding.{cell_block, cell_word, block_model, Imaged};
 
 use crate::clearing::Clearing;
 use crate::inspection::is_fit;
-use crate::reading::{BLOCK_CELLS, part_at};
+use crate::reading::{BLOCK_CELLS, cell_at};
 use crate::words::{store_word, word_at};
 use items::ItemKind;
-use stores::MAX_HEAD;
+use stores::{Cell, MAX_HEAD};
 
 pub(crate) fn cells_in<I: ItemKind>(mem: &[u8], n: usize) -> usize
     ensures { result ≡ size (block_model I.ItemKind.item n mem.now) }
@@ -39,25 +40,19 @@ pub(crate) fn end_in<I: ItemKind>(mem: &[u8], n: usize) -> i64
     }
 }
 
-pub(crate) fn item_in<I: ItemKind>(mem: &[u8], n: usize, i: usize) -> I
+pub(crate) fn cell_in<I: ItemKind>(mem: &[u8], n: usize, i: usize) -> Cell<I>
     requires { i < size (block_model I.ItemKind.item n mem.now) }
-    ensures { result ≡ (cell_of I.ItemKind.blank (block_model I.ItemKind.item n mem.now) i).item }
+    ensures { result ≡ cell_of I.ItemKind.blank (block_model I.ItemKind.item n mem.now) i }
 {
-    I::decode(part_at(mem, i, 0))
+    cell_at(mem, i)
 }
 
-pub(crate) fn rank_in<I: ItemKind>(mem: &[u8], n: usize, i: usize) -> i64
-    requires { i < size (block_model I.ItemKind.item n mem.now) }
-    ensures { result ≡ (cell_of I.ItemKind.blank (block_model I.ItemKind.item n mem.now) i).rank }
-{
-    part_at(mem, i, 1).cast_signed()
-}
-
-pub(crate) fn gap_in<I: ItemKind>(mem: &[u8], n: usize, i: usize) -> i64
-    requires { i < size (block_model I.ItemKind.item n mem.now) }
-    ensures { result ≡ (cell_of I.ItemKind.blank (block_model I.ItemKind.item n mem.now) i).gap }
-{
-    part_at(mem, i, 2).cast_signed()
+// A part of a cell, and what it becomes.
+#[derive(Clone, Copy)]
+pub(crate) enum Part<I> {
+    Item(I),
+    Rank(i64),
+    Gap(i64),
 }
 
 // Word `part` of cell `i` becomes `w`.
@@ -69,28 +64,16 @@ fn put_part(mem: &mut [u8], i: usize, part: usize, w: u64)
     store_word(mem, 1 + i / BLOCK_CELLS, 3 * (i % BLOCK_CELLS) + part, w);
 }
 
-pub(crate) fn put_item_in<I: ItemKind>(mem: &mut [u8], n: usize, i: usize, item: I)
+pub(crate) fn put_in<I: ItemKind>(mem: &mut [u8], n: usize, i: usize, part: Part<I>)
     requires { i < size (block_model I.ItemKind.item n mem.old) }
-    ensures model { block_model I.ItemKind.item n mem.new ≡ with_item I.ItemKind.blank (block_model I.ItemKind.item n mem.old) i item }
+    ensures model { block_model I.ItemKind.item n mem.new ≡ with_part I.ItemKind.blank (block_model I.ItemKind.item n mem.old) i part }
     ensures image { Imaged I.ItemKind.word I.ItemKind.item n mem.old → Imaged I.ItemKind.word I.ItemKind.item n mem.new }
 {
-    put_part(mem, i, 0, item.encode());
-}
-
-pub(crate) fn put_rank_in<I: ItemKind>(mem: &mut [u8], n: usize, i: usize, rank: i64)
-    requires { i < size (block_model I.ItemKind.item n mem.old) }
-    ensures model { block_model I.ItemKind.item n mem.new ≡ with_rank I.ItemKind.blank (block_model I.ItemKind.item n mem.old) i rank }
-    ensures image { Imaged I.ItemKind.word I.ItemKind.item n mem.old → Imaged I.ItemKind.word I.ItemKind.item n mem.new }
-{
-    put_part(mem, i, 1, rank.cast_unsigned());
-}
-
-pub(crate) fn put_gap_in<I: ItemKind>(mem: &mut [u8], n: usize, i: usize, gap: i64)
-    requires { i < size (block_model I.ItemKind.item n mem.old) }
-    ensures model { block_model I.ItemKind.item n mem.new ≡ with_gap I.ItemKind.blank (block_model I.ItemKind.item n mem.old) i gap }
-    ensures image { Imaged I.ItemKind.word I.ItemKind.item n mem.old → Imaged I.ItemKind.word I.ItemKind.item n mem.new }
-{
-    put_part(mem, i, 2, gap.cast_unsigned());
+    match part {
+        Part::Item(item) => put_part(mem, i, 0, item.encode()),
+        Part::Rank(rank) => put_part(mem, i, 1, rank.cast_unsigned()),
+        Part::Gap(gap) => put_part(mem, i, 2, gap.cast_unsigned()),
+    }
 }
 
 pub(crate) fn set_head_in<I: ItemKind>(mem: &mut [u8], n: usize, head: u64)
@@ -117,13 +100,12 @@ fn write_cleared<I: ItemKind>(mem: &mut [u8], n: usize, start: u64)
     ensures model { block_model I.ItemKind.item n mem.new ≡ cleared I.ItemKind.blank n start }
     ensures image { Imaged I.ItemKind.word I.ItemKind.item n mem.new }
 {
-    let blank = I::blank().encode();
-    let clearing = Clearing {
+    Clearing {
         cells: n,
         start,
-        blank,
-    };
-    clearing.write(mem);
+        blank: I::blank().encode(),
+    }
+    .write(mem);
 }
 
 pub(crate) fn clear_in<I: ItemKind>(mem: &mut [u8], n: usize, start: u64)

@@ -1,60 +1,44 @@
 // Words in bytes, and the check of a block.
-ghost use Rattle.std.specs.Prelude.{◌≡◌, ◌+◌, ◌*◌, ◌%◌, ◌^◌, ◌<◌, ◌≤◌, length};
+ghost use Rattle.std.specs.Prelude.{◌≡◌, ◌==◌, ◌+◌, ◌*◌, ◌%◌, ◌^◌, ◌<◌, ◌≤◌, length};
 ghost use Rattle.layout.specs.Words.{word, put};
-ghost use Rattle.layout.specs.Blocks.{place, sum_words, check_of, stored};
+ghost use Rattle.layout.specs.Blocks.{sum_words, stored};
 
 pub(crate) const BLOCK_BYTES: usize = 512;
 // The word of a block that is its check.
 pub(crate) const CHECK_WORD: usize = 63;
 
+pub(crate) type Block = [u8; BLOCK_BYTES];
+
 pub(crate) fn word_at(mem: &[u8], at: usize) -> u64
     requires { at + 8 ≤ length mem.now }
     ensures { result ≡ word mem.now at }
 {
-    u64::from_le_bytes([
-        mem[at],
-        mem[at + 1],
-        mem[at + 2],
-        mem[at + 3],
-        mem[at + 4],
-        mem[at + 5],
-        mem[at + 6],
-        mem[at + 7],
-    ])
+    u64::from_le_bytes(mem[at..at + 8].try_into().unwrap())
 }
 
-// The sum of the words of block `b` before its check, modulo 2^64.
-fn sum_words(mem: &[u8], b: usize) -> u64
-    requires { 512 * b + 512 ≤ length mem.now }
-    ensures { result ≡ sum_words mem.now b 63 % 2 ^ 64 }
+// The sum of the words of a block before its check, modulo 2^64.
+fn sum_words(block: &Block) -> u64
+    ensures { result ≡ sum_words block.now 0 63 % 2 ^ 64 }
 {
-    let mut sum = 0u64;
-    for j in 0..CHECK_WORD {
-        sum = sum.wrapping_add(word_at(mem, BLOCK_BYTES * b + 8 * j));
-    }
-    sum
+    let (words, _) = block.as_chunks::<8>();
+    words[..CHECK_WORD].iter().fold(0, |sum: u64, word| {
+        sum.wrapping_add(u64::from_le_bytes(*word))
+    })
 }
 
-// The check that block `b` has to have.
-pub(crate) fn check_of(mem: &[u8], b: usize) -> u64
-    requires { 512 * b + 512 ≤ length mem.now }
-    ensures { result ≡ check_of mem.now b }
+// Whether a block that is block `b` of a memory has its check.
+pub(crate) fn has_check(block: &Block, b: usize) -> bool
+    ensures { result ≡ (word block.now 504 == (b + 1 + sum_words block.now 0 63) % 2 ^ 64) }
 {
-    sum_words(mem, b).wrapping_add(b as u64).wrapping_add(1)
+    let check = sum_words(block).wrapping_add(b as u64).wrapping_add(1);
+    word_at(block, 8 * CHECK_WORD) == check
 }
 
 pub(crate) fn put_word(mem: &mut [u8], at: usize, w: u64)
     requires { at + 8 ≤ length mem.old }
     ensures { mem.new ≡ put mem.old at w }
 {
-    mem[at] = (w % 256) as u8;
-    mem[at + 1] = (w / 256 % 256) as u8;
-    mem[at + 2] = (w / 65536 % 256) as u8;
-    mem[at + 3] = (w / 16777216 % 256) as u8;
-    mem[at + 4] = (w / 4294967296 % 256) as u8;
-    mem[at + 5] = (w / 1099511627776 % 256) as u8;
-    mem[at + 6] = (w / 281474976710656 % 256) as u8;
-    mem[at + 7] = (w / 72057594037927936 % 256) as u8;
+    mem[at..at + 8].copy_from_slice(&w.to_le_bytes());
 }
 
 // Word `j` of block `b` becomes `w`, and the block's check moves by the difference.

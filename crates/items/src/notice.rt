@@ -26,24 +26,21 @@ impl ItemKind for Notice {
     fn encode(self) -> u64 {
         match self {
             Notice::Nothing => 0,
-            Notice::SilentProbe { probe } => 1 + 65536 * u64::from(probe),
-            Notice::Battery { probe, millivolts } => 2
-                + 65536 * u64::from(probe)
-                + 4294967296 * u64::from(millivolts),
-            Notice::ClockShift { seconds } => 3 + 4294967296 * u64::from(seconds.cast_unsigned()),
+            Notice::SilentProbe { probe } => u64::from(probe) << 16 | 1,
+            Notice::Battery { probe, millivolts } => {
+                u64::from(millivolts) << 32 | (u64::from(probe) << 16 | 2)
+            }
+            Notice::ClockShift { seconds } => u64::from(seconds.cast_unsigned()) << 32 | 3,
         }
     }
 
     fn decode(w: u64) -> Notice {
-        let probe = (w / 65536 % 65536) as u16;
-        let value = (w / 4294967296) as u32;
-        match w % 65536 {
-            1 if value == 0 => Notice::SilentProbe { probe },
-            2 if value < 65536 => Notice::Battery {
-                probe,
-                millivolts: value as u16,
-            },
-            3 if probe == 0 => Notice::ClockShift {
+        let probe = (w >> 16 & 0xffff) as u16;
+        let value = (w >> 32) as u32;
+        match (w & 0xffff, u16::try_from(value)) {
+            (1, Ok(0)) => Notice::SilentProbe { probe },
+            (2, Ok(millivolts)) => Notice::Battery { probe, millivolts },
+            (3, _) if probe == 0 => Notice::ClockShift {
                 seconds: value.cast_signed(),
             },
             _ => Notice::Nothing,

@@ -29,15 +29,15 @@ impl ItemKind for Reading {
 
     fn encode(self) -> u64 {
         u64::from(self.probe)
-            + 65536 * u64::from(self.sequence)
-            + 4294967296 * u64::from(self.level.cast_unsigned())
+            | u64::from(self.sequence) << 16
+            | u64::from(self.level.cast_unsigned()) << 32
     }
 
     fn decode(w: u64) -> Reading {
         Reading {
-            probe: (w % 65536) as u16,
-            sequence: (w / 65536 % 65536) as u16,
-            level: ((w / 4294967296) as u32).cast_signed(),
+            probe: (w & 0xffff) as u16,
+            sequence: (w >> 16 & 0xffff) as u16,
+            level: ((w >> 32) as u32).cast_signed(),
         }
     }
 }

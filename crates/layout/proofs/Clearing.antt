@@ -1,8 +1,8 @@
--- A memory that is cleared: its words, its bytes and its model.
-use Rattle.std.proofs.Common.{◌≡◌, ℕ, zero, suc, ◌+◌, ◌-◌, ◌*◌, ◌/◌, ◌%◌, ◌^◌, ◌<◌, ◌≤◌, true, List, length, get_or, replicate, negsuc, sym, refl, ap, ◌∙◌, arith, w64, to_z}
+-- A memory that is cleared: its words and its model.
+use Rattle.std.proofs.Common.{◌≡◌, ℕ, suc, ◌+◌, ◌*◌, ◌/◌, ◌%◌, ◌^◌, ◌<◌, true, List, length, get_or, replicate, negsuc, sym, ap, ◌∙◌, arith, w64, to_z}
 use lib.LanesLaws.{map-replicate}
 use Rattle.std.proofs.lemmas.List.FromFn.{fill_by_all}
-use Rattle.std.proofs.lemmas.List.{get_or-replicate, get_or_past, length-replicate}
+use Rattle.std.proofs.lemmas.List.{get_or-replicate, length-replicate}
 use Rattle.stores.specs.Model.{Contents, size, fresh_cell, cleared}
 use Rattle.layout.specs.Words.{word}
 use Rattle.layout.specs.Blocks.{place, blocks_for, fit}
@@ -11,31 +11,6 @@ use Rattle.layout.specs.Decoding.{cell_block, cell_word, part_in, cell_in, decod
 use Rattle.layout.proofs.Images.{full_plain, word_bytes}
 use Rattle.layout.proofs.Models.{same_contents, same_cell}
 use Rattle.layout.proofs.Fits.{Fits, model_fit}
-
--- ---- the words, as a loop over them meets them
-
-module _ (blank n start : ℕ) where
-  abbrev fresh : Contents ℕ
-  fresh = cleared blank n start
-
-  pub fresh_item : (b j : ℕ) → (b ≡ 0 → ⊥) → 21 * (b - 1) + j / 3 < n → j % 3 ≡ 0 → blank ≡ plain fresh b j
-  fresh_item zero j nz h e = absurd (nz refl)
-  fresh_item (suc b) j nz h e =
-      sym (ap (λ c. part c (j % 3)) (get_or-replicate n (21 * b + j / 3) (fresh_cell blank) zero_cell (omega arith)) ∙ (grind arith))
-
-  pub fresh_mark : (b j : ℕ) → (b ≡ 0 → ⊥) → 21 * (b - 1) + j / 3 < n → (j % 3 ≡ 0 → ⊥) → 18446744073709551615 ≡ plain fresh b j
-  fresh_mark zero j nz h e = absurd (nz refl)
-  fresh_mark (suc b) j nz h e =
-      sym (ap (λ c. part c (j % 3)) (get_or-replicate n (21 * b + j / 3) (fresh_cell blank) zero_cell (omega arith)) ∙ (grind arith))
-
-  pub fresh_past : (b j : ℕ) → (b ≡ 0 → ⊥) → n ≤ 21 * (b - 1) + j / 3 → 0 ≡ plain fresh b j
-  fresh_past zero j nz h = absurd (nz refl)
-  fresh_past (suc b) j nz h =
-      sym
-      (ap (λ c. part c (j % 3)) (get_or_past (replicate n (fresh_cell blank)) (21 * b + j / 3) zero_cell (omega (arith, length-replicate n (fresh_cell blank))))
-      ∙ (grind arith))
-
--- ---- the model
 
 module _ {X : Type 0} (word_of : X → ℕ) (item : ℕ → X) (blank : X) (law : item (word_of blank) ≡ blank) (small : word_of blank < 2 ^ 64)
     (n start : ℕ) (low : start < 2 ^ 40) (m : List ℕ) (f : Fits (length m) n) (e : m ≡ image (cleared (word_of blank) n start)) where

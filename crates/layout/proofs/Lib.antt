@@ -8,3 +8,4 @@ pub mod ModelImages
 pub mod Fits
 pub mod Actions
 pub mod Clearing
+pub mod Conversions

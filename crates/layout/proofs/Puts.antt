@@ -24,43 +24,18 @@ pub byte_put_other : (m : List ℕ) (at w k : ℕ) → (k < at) ⊎ (at + 8 ≤ 
 unfolding put
 byte_put_other m at w k h = grind (arith, get_or-set_other)
 
-module _ (m : List ℕ) (at w : ℕ) (h : at + 8 ≤ length m) where
-  byte_put_0 : get_or (put m at w) at 0 ≡ byte_of w 0
-  unfolding put
-  byte_put_0 = grind (arith, get_or-set_same, get_or-set_other, length-set)
-
-  byte_put_1 : get_or (put m at w) (at + 1) 0 ≡ byte_of w 1
-  unfolding put
-  byte_put_1 = grind (arith, get_or-set_same, get_or-set_other, length-set)
-
-  byte_put_2 : get_or (put m at w) (at + 2) 0 ≡ byte_of w 2
-  unfolding put
-  byte_put_2 = grind (arith, get_or-set_same, get_or-set_other, length-set)
-
-  byte_put_3 : get_or (put m at w) (at + 3) 0 ≡ byte_of w 3
-  unfolding put
-  byte_put_3 = grind (arith, get_or-set_same, get_or-set_other, length-set)
-
-  byte_put_4 : get_or (put m at w) (at + 4) 0 ≡ byte_of w 4
-  unfolding put
-  byte_put_4 = grind (arith, get_or-set_same, get_or-set_other, length-set)
-
-  byte_put_5 : get_or (put m at w) (at + 5) 0 ≡ byte_of w 5
-  unfolding put
-  byte_put_5 = grind (arith, get_or-set_same, get_or-set_other, length-set)
-
-  byte_put_6 : get_or (put m at w) (at + 6) 0 ≡ byte_of w 6
-  unfolding put
-  byte_put_6 = grind (arith, get_or-set_same, get_or-set_other, length-set)
-
-  byte_put_7 : get_or (put m at w) (at + 7) 0 ≡ byte_of w 7
-  unfolding put
-  byte_put_7 = grind (arith, get_or-set_same, get_or-set_other, length-set)
-
-  pub byte_put : (i : ℕ) → i < 8 → get_or (put m at w) (at + i) 0 ≡ byte_of w i
-  byte_put =
-      below_8 (λ i. get_or (put m at w) (at + i) 0 ≡ byte_of w i) (ap (λ k. get_or (put m at w) k 0) (omega arith) ∙ byte_put_0) byte_put_1
-      byte_put_2 byte_put_3 byte_put_4 byte_put_5 byte_put_6 byte_put_7
+pub byte_put : (m : List ℕ) (at w : ℕ) → at + 8 ≤ length m → (i : ℕ) → i < 8 → get_or (put m at w) (at + i) 0 ≡ byte_of w i
+unfolding put
+byte_put m at w h =
+    below_8 (λ i. get_or (put m at w) (at + i) 0 ≡ byte_of w i)
+    (grind (arith, get_or-set_same, get_or-set_other, length-set))
+    (grind (arith, get_or-set_same, get_or-set_other, length-set))
+    (grind (arith, get_or-set_same, get_or-set_other, length-set))
+    (grind (arith, get_or-set_same, get_or-set_other, length-set))
+    (grind (arith, get_or-set_same, get_or-set_other, length-set))
+    (grind (arith, get_or-set_same, get_or-set_other, length-set))
+    (grind (arith, get_or-set_same, get_or-set_other, length-set))
+    (grind (arith, get_or-set_same, get_or-set_other, length-set))
 
 -- eight bytes of a word write it again, modulo 2^64
 digits : (w : ℕ) →
@@ -91,13 +66,13 @@ word_put_same m at w h = word_from_bytes (put m at w) at w (byte_put m at w h)
 abbrev pub Apart : ℕ → ℕ → Type 0
 Apart a b = (a + 8 ≤ b) ⊎ (b + 8 ≤ a)
 
--- a word whose bytes are those of another list
-pub word_same : (m l : List ℕ) (at : ℕ) → ((i : ℕ) → i < 8 → get_or m (at + i) 0 ≡ get_or l (at + i) 0) → word m at ≡ word l at
+-- two words of the same bytes
+pub word_same : (m l : List ℕ) (a b : ℕ) → ((i : ℕ) → i < 8 → get_or m (a + i) 0 ≡ get_or l (b + i) 0) → word m a ≡ word l b
 unfolding word
-word_same m l at h =
-    let e : at ≡ at + 0 = omega arith in
+word_same m l a b h =
+    let e : a ≡ a + 0 = omega arith in
     rw (
-      ap (λ k. get_or m k 0) e ∙ h 0 (omega arith) ∙ ap (λ k. get_or l k 0) (let d : at + 0 ≡ at = omega arith in d),
+      ap (λ k. get_or m k 0) e ∙ h 0 (omega arith) ∙ ap (λ k. get_or l k 0) (let d : b + 0 ≡ b = omega arith in d),
       h 1 (omega arith),
       h 2 (omega arith),
       h 3 (omega arith),
@@ -109,5 +84,5 @@ word_same m l at h =
 
 pub word_put_other : (m : List ℕ) (at w k : ℕ) → Apart at k → word (put m at w) k ≡ word m k
 word_put_other m at w k a =
-    word_same (put m at w) m k
+    word_same (put m at w) m k k
     (λ i l. byte_put_other m at w (k + i) (⊎_elim (λ (e : at + 8 ≤ k). inr (omega arith)) (λ (e : k + 8 ≤ at). inl (omega arith)) a))

@@ -9,9 +9,6 @@ use Rattle.layout.proofs.Puts.{byte_put, byte_put_other}
 use Rattle.layout.proofs.Images.{byte_at_place}
 
 module _ (f : ℕ → ℕ → ℕ) where
-  pub written_none : (m : List ℕ) → Written f m 0
-  written_none m i h = absurd (omega arith)
-
   -- one more word
   pub written_more : (m l : List ℕ) (b j w k : ℕ) → j < 64 → place b j + 8 ≤ length m → w ≡ full f b j → l ≡ put m (place b j) w →
       k ≡ place b j + 8 → Written f m (place b j) → Written f l k

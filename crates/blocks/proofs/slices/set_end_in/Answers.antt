@@ -4,10 +4,8 @@ use Rattle.layout.proofs.Fits.{fits_some}
 use Rattle.layout.proofs.Actions.{end_model, end_imaged}
 use Rattle.blocks.proofs.slices.set_end_in.Goals as goal
 
-pub store_word-requires : goal.store_word-requires
-store_word-requires g c =
-    let f = fits_some g.I.ItemKind.item c.args.n c.args.mem.now 0 c.requires in
-    record { block = omega arith; plain = omega arith }
+pub store_word-requires-clause-block : goal.store_word-requires-clause-block
+store_word-requires-clause-block g c = let f = fits_some g.I.ItemKind.item c.args.n c.args.mem.now 0 c.requires in omega (arith, f.whole)
 
 pub returns : goal.returns
 returns g c =

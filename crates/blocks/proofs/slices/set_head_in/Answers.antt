@@ -3,10 +3,8 @@ use Rattle.layout.proofs.Fits.{fits_some}
 use Rattle.layout.proofs.Actions.{head_model, head_imaged}
 use Rattle.blocks.proofs.slices.set_head_in.Goals as goal
 
-pub store_word-requires : goal.store_word-requires
-store_word-requires g c =
-    let f = fits_some g.I.ItemKind.item c.args.n c.args.mem.now 0 c.requires.some in
-    record { block = omega arith; plain = omega arith }
+pub store_word-requires-clause-block : goal.store_word-requires-clause-block
+store_word-requires-clause-block g c = let f = fits_some g.I.ItemKind.item c.args.n c.args.mem.now 0 c.requires.some in omega (arith, f.whole)
 
 pub returns : goal.returns
 returns g c =
