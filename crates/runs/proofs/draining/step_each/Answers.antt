@@ -17,7 +17,7 @@ returns-then-k-workers g c =
       drained = as_ended blank (queue_reason g.S.Fault.Refusal.reason) _ (Ok _) ws m l (inv.0 ∙ drain_finished blank c.args.budget c.loop-steps.steps c.loop-steps.k ws m l c.if-k-workers.true);
       fault = tt;
       lender = inv.1;
-      lent = inv.1;
+      lent = inv.2;
     }
 
 pub returns-in-Err : goal.returns-in-Err
@@ -32,7 +32,7 @@ returns-in-Err g c =
           c.loop-steps-test.true c.if-k-workers.false (sym step.answer) step.workers step.model step.log);
       fault = step.carries;
       lender = step.lender ∙ inv.1;
-      lent = step.lent ∙ inv.1;
+      lent = step.lent ∙ inv.2;
     }
 
 pub loop-steps-preserved : goal.loop-steps-preserved
@@ -45,7 +45,7 @@ loop-steps-preserved g c =
           c.loop-steps-test.true c.if-k-workers.false (sym step.answer) step.workers step.model step.log
           ∙ ap (λ (k : ℕ). drain_from blank (c.args.budget - (c.loop-steps.steps + 1)) (c.loop-steps.steps + 1) k c.worker_step.new.workers (g.S.Store.model c.worker_step.new.store) (log_view c.worker_step.new.log)) (sym c.next_worker-k.ensures),
       step.lender ∙ inv.1,
-      step.lent ∙ inv.1,
+      step.lent ∙ inv.2,
     )
 
 pub returns : goal.returns
@@ -62,5 +62,5 @@ returns g c =
           ∙ ap (λ (n : ℕ). ends blank n (Ok (leb (length ws) c.loop-steps.k)) ws m l) all);
       fault = tt;
       lender = inv.1;
-      lent = inv.1;
+      lent = inv.2;
     }
