@@ -19,15 +19,19 @@ mod tests {
 
     // The memory of one cell: head 0, end mark -1, and in cell 0 an item of rank 0 with gap -1.
     fn one_cell(heap: Global) -> Result<Vec<u8>, AllocError> {
+        let mut words = [0u64; 128];
+        for (place, word) in [
+            (0, 1),
+            (2, u64::MAX),
+            (63, 1),
+            (64, ITEM),
+            (66, u64::MAX),
+            (127, ITEM + 1),
+        ] {
+            words[place] = word;
+        }
         let mut memory = Vec::new(heap);
-        for place in 0..128 {
-            let word: u64 = match place {
-                0 | 63 => 1,
-                2 | 66 => u64::MAX,
-                64 => ITEM,
-                127 => ITEM + 1,
-                _ => 0,
-            };
+        for word in words {
             memory.extend_from_slice(&word.to_le_bytes())?;
         }
         Ok(memory)

@@ -5,6 +5,7 @@ ghost use Rattle.inspection.specs.Lines.{usage_line, refused_line, header_lines,
 
 use blocks::{BlockFault, Header, stored_cell};
 use items::Reading;
+use reports::refused_line;
 use std::alloc::{AllocError, Global};
 use std::fmt::Write;
 use stores::{Cell, Refusal};
@@ -21,9 +22,7 @@ pub(crate) fn usage(heap: Global) -> Result<String, AllocError>
 pub(crate) fn refused(heap: Global, fault: BlockFault) -> Result<String, AllocError>
     ensures { IfOk result (λ s. string_bytes s ≡ refused_line fault) }
 {
-    let number = fault.number();
-    let place = fault.place();
-    format!(in heap; "refused {number} {place}\n")
+    refused_line(heap, fault.number(), fault.place())
 }
 
 // Without the last line feed.

@@ -1,4 +1,5 @@
-// Calls, answers and entries in plain words.
+// Calls, answers and entries in plain words. These types print them for this program, which tells an item by its probe
+// alone.
 use items::Reading;
 use protocol::{Answer, Call, Entry, WorkerAnswer};
 use std::fmt;

@@ -10,7 +10,7 @@ use crate::schedule::{no_answers, schedule};
 use anyhow::anyhow;
 use arrangements::{ArrangedStore, Turned};
 use blocks::BlockMemory;
-use items::Reading;
+use items::{ItemKind, Reading};
 use lives::Parts;
 use protocol::{Answer, Call, Entry, Worker};
 use queue::{Log, Receiver};
@@ -19,18 +19,6 @@ use std::io;
 const CELLS: usize = 16;
 
 const BYTES: usize = 1024;
-
-const BLANK: Reading = Reading {
-    probe: 0,
-    sequence: 0,
-    level: 0,
-};
-
-const NO_ENTRY: Entry<Reading> = Entry {
-    rank: 0,
-    worker: 0,
-    item: BLANK,
-};
 
 // Makes the calls in a queue of its own, with two workers. Answers how many deliveries there are, or `None` where the
 // queue can't be laid out.
@@ -83,7 +71,12 @@ fn print_log(rt: &HostRuntime, entries: &[Entry<Reading>], count: usize) -> io::
 fn main(rt: HostRuntime) -> anyhow::Result<()> {
     let calls = schedule(rt.alloc())?;
     let mut answers = no_answers(rt.alloc(), calls.len())?;
-    let mut entries = [NO_ENTRY; 16];
+    let no_entry = Entry {
+        rank: 0,
+        worker: 0,
+        item: Reading::blank(),
+    };
+    let mut entries = [no_entry; 16];
     let Some(count) = live(calls.as_slice(), answers.as_mut_slice(), &mut entries) else {
         return Err(anyhow!("the queue can't be laid out"));
     };

@@ -37,6 +37,7 @@ fn close_new<I: ItemKind, S: Store<Item = I>>(store: &mut S, permit: FreePermit)
     requires { 0 < size (S.Store.model store.old) }
     ensures { result ≡ closed_at (laid_receiver 0) (S.Store.model store.old) }
 {
+    // No `unwrap`: a refusal would bring a permit, which can't be dropped.
     match Receiver::new().close(store, permit) {
         Ok(mark) => mark,
         Err(_) => unreachable(),

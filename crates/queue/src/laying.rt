@@ -17,7 +17,8 @@ use stores::{MAX_HEAD, Store};
 // A worker table has no more records.
 pub const MAX_WORKERS: usize = 64;
 
-// Clears the store at `start`, empties the receiver's hand and the log, and makes every worker idle.
+// Clears the store at `start`, empties the receiver's hand and the log, and makes every worker idle. The parts stand one
+// by one, since in a gateway the receiver and the workers go into tasks of their own.
 pub fn lay_out<I: ItemKind, S: Store<Item = I>>(
     store: &mut S,
     receiver: &mut Receiver<I>,

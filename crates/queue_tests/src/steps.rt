@@ -1,16 +1,10 @@
 // Steps of a worker on records that are set up beforehand.
-use items::Reading;
+use items::{ItemKind, Reading};
 use lives::Held;
 use protocol::{Entry, Worker, WorkerAnswer, WorkerPhase};
 use queue::{Log, QueueFault, Receiver, lay_out, worker_step};
 use std::test::Fail;
 use stores::{Cell, RecordMemory, Refusal, Store, StoreFault};
-
-const BLANK: Reading = Reading {
-    probe: 0,
-    sequence: 0,
-    level: 0,
-};
 
 const LAST: u64 = (1 << 40) - 1;
 
@@ -18,7 +12,7 @@ fn worker(phase: WorkerPhase, rank: u64) -> Worker<Reading> {
     Worker {
         phase,
         rank,
-        copy: BLANK,
+        copy: Reading::blank(),
     }
 }
 
@@ -85,12 +79,12 @@ fn a_delivery_is_found_in_the_log(rt: HostRuntime) {
     let mut entries = [Entry {
         rank: 7,
         worker: 3,
-        item: BLANK,
+        item: Reading::blank(),
     }; 2];
     let mut log = Log::new(&mut entries);
     assert_eq!(rt;
         worker_step(&mut store, &mut workers, &mut log, 0),
-        Ok(WorkerAnswer::Delivered(0, BLANK))
+        Ok(WorkerAnswer::Delivered(0, Reading::blank()))
     );
     assert_eq!(rt; log.count(), 1);
     assert!(rt; log.entry(0).is_some());

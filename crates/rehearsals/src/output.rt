@@ -6,36 +6,12 @@ ghost use Rattle.rehearsals.specs.Outputs.{idle_worker, no_entry, staged, plan_r
 
 use crate::staging::text_in;
 use grammar::Header;
-use items::Reading;
-use protocol::{Entry, Worker, WorkerPhase};
+use items::{ItemKind, Reading};
+use protocol::{Entry, Worker};
 use reports::refused_line;
 use std::alloc::{AllocError, Global};
 use stores::{Cell, Refusal};
 use texts::{ParseFault, Plan, parse};
-
-const BLANK: Reading = Reading {
-    probe: 0,
-    sequence: 0,
-    level: 0,
-};
-
-const FRESH: Cell<Reading> = Cell {
-    item: BLANK,
-    rank: -1,
-    gap: -1,
-};
-
-const IDLE: Worker<Reading> = Worker {
-    phase: WorkerPhase::Idle,
-    rank: 0,
-    copy: BLANK,
-};
-
-const NO_ENTRY: Entry<Reading> = Entry {
-    rank: 0,
-    worker: 0,
-    item: BLANK,
-};
 
 const LOG_ROOM: usize = 64;
 
@@ -49,9 +25,14 @@ fn rehearsed_text(
     requires { HeaderFits header }
     ensures { IfOk result (λ s. string_bytes s ≡ ended_text (staged header.cells (replicate header.workers idle_worker) (replicate 64 no_entry) header.start items.now turns.now)) }
 {
-    let mut cells = vec![in heap; FRESH; header.cells as usize]?;
-    let mut workers = vec![in heap; IDLE; header.workers as usize]?;
-    let mut entries = vec![in heap; NO_ENTRY; LOG_ROOM]?;
+    let no_entry = Entry {
+        rank: 0,
+        worker: 0,
+        item: Reading::blank(),
+    };
+    let mut cells = vec![in heap; Cell::fresh(); header.cells as usize]?;
+    let mut workers = vec![in heap; Worker::idle(); header.workers as usize]?;
+    let mut entries = vec![in heap; no_entry; LOG_ROOM]?;
     text_in(
         heap,
         cells.as_mut_slice(),

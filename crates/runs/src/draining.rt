@@ -17,7 +17,7 @@ use stores::Store;
 // A larger budget is cut to this one, which is enough for every queue.
 const MAX_BUDGET: u64 = 1 << 43;
 
-// So many steps were made; an unfinished drain has used its budget up.
+// So many steps were made; an unfinished drain has used its budget up. No enum: the steps mean the same in both cases.
 #[derive(Clone, Copy, PartialEq, Eq, Debug)]
 pub struct Drained {
     pub steps: u64,

@@ -178,6 +178,7 @@ fn finish<I: ItemKind, S: Store<Item = I>>(
         Held::Full(permit) => parts.receiver.withdraw(permit).1,
         Held::Spent => unreachable(),
     };
+    // No `unwrap`: a refusal would bring a permit, which can't be dropped.
     match parts.receiver.close(parts.store, permit) {
         Ok(end) => end,
         Err(_) => unreachable(),

@@ -6,12 +6,8 @@ use items::{ItemKind, Notice, Reading};
 
 // Word 63 of the block that begins at `at`.
 fn check_word(mem: &[u8], at: usize) -> Option<u64> {
-    let mut word = 0;
-    for k in 0..8 {
-        let byte = *mem.get(at.checked_add(511 - k)?)?;
-        word = word % 72057594037927936 * 256 + u64::from(byte);
-    }
-    Some(word)
+    let bytes = mem.get(at.checked_add(504)?..)?.first_chunk()?;
+    Some(u64::from_le_bytes(*bytes))
 }
 
 #[test]

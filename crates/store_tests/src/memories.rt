@@ -88,16 +88,14 @@ fn notices_in_a_block_memory(rt: HostRuntime) -> Result<(), Fail> {
     assert_eq!(rt; store.item(0), Ok(Notice::Nothing));
     assert_eq!(rt; store.put_item(1, shift), Ok(()));
     assert_eq!(rt; store.item(1), Ok(shift));
-    match stored_cell::<Notice>(&bytes, 1) {
-        Some(cell) => {
-            assert_eq!(rt; cell.item, shift);
-            Ok(())
-        },
-        None => Err(Fail::new("no cell 1")),
-    }
+    let Some(cell) = stored_cell::<Notice>(&bytes, 1) else {
+        return Err(Fail::new("no cell 1"));
+    };
+    assert_eq!(rt; cell.item, shift);
+    Ok(())
 }
 
-// Each byte changed in two ways, one at a time.
+// Each byte changed in two ways, one at a time. By number, since the whole memory is inspected at each.
 fn damage_is_told(rt: &impl Abort, bytes: &mut [u8], n: usize) {
     for at in 0..bytes.len() {
         let old = bytes[at];

@@ -4,6 +4,7 @@ ghost use Rattle.stores.specs.Model.{fresh_cell};
 
 use items::ItemKind;
 
+// A store keeps any signed number, of which those from 0 on are ranks: an `Option` of a rank would hold fewer.
 #[derive(Clone, Copy, PartialEq, Eq, Debug)]
 pub struct Cell<I> {
     pub item: I,

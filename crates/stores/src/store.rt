@@ -6,6 +6,7 @@ ghost use Rattle.stores.specs.Calls.{no_cell, no_end, no_rank, no_clear, Answere
 use crate::refusal::Refusal;
 use items::ItemKind;
 
+// A step of the queue reads or writes one part of a cell, so each part has a call of its own.
 pub trait Store {
     type Item: ItemKind;
 
@@ -21,7 +22,8 @@ pub trait Store {
 
     ghost image: { (s : Self) → imaged s };
 
-    // The ghost name of the memory that is lent to the store: whoever lent it knows what it holds afterwards.
+    // The ghost name of the memory that is lent to the store: whoever lent it knows what it holds afterwards. That a call
+    // keeps it is said by each, since an equation between before and after is no invariant of a type.
     ghost lender: { Self → ℕ };
 
     fn cells(&self) -> usize

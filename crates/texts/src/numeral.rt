@@ -2,8 +2,7 @@
 ghost use Rattle.std.specs.Prelude.{◌≡◌, ◌<◌, length, Decides, slice_index};
 ghost use Rattle.grammar.specs.Scans.{AllDigits, Numeral};
 
-// No number of a text in form is as large.
-const LIMIT: u64 = 1 << 40;
+use stores::MAX_HEAD;
 
 fn has_leading_zero(digits: &[u8]) -> bool
     ensures { Decides result ((1 < length digits.now) × (slice_index digits.now 0 ≡ 48)) }
@@ -19,11 +18,12 @@ pub(crate) fn numeral(digits: &[u8]) -> Option<u64>
     if digits.is_empty() || has_leading_zero(digits) {
         return None;
     }
-    // A loop: in a `try_fold` the same test would stand in a closure, no plainer.
+    // A loop: the closure of a `try_fold` would have to be told that the value so far is small.
     let mut value = 0;
     for digit in digits {
         value = value * 10 + u64::from(*digit - b'0');
-        if value >= LIMIT {
+        // No number of a text in form is as large.
+        if value >= MAX_HEAD {
             return None;
         }
     }
