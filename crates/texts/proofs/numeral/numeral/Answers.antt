@@ -17,8 +17,8 @@ returns-then-is_empty c =
 pub overflow_sub-digit : goal.overflow_sub-digit
 overflow_sub-digit c = omega (arith, at_digit c.args.digits.now c.loop-digit.digit-index c.requires (omega arith))
 
-pub returns-then-value-ge-LIMIT : goal.returns-then-value-ge-LIMIT
-returns-then-value-ge-LIMIT c =
+pub returns-then-value-ge-MAX_HEAD : goal.returns-then-value-ge-MAX_HEAD
+returns-then-value-ge-MAX_HEAD c =
     let e = value_next c.args.digits.now c.loop-digit.digit-index c.loop-digit.value c.requires (omega arith) c.loop-digit.invariant.1 in
     none_large (c.loop-digit.digit-index + 1) c.args.digits.now (omega (arith, e))
 
