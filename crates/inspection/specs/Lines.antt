@@ -25,12 +25,12 @@ header_lines n h = codes "cells " ++ (decimal n ++ (codes "\nhead " ++ (decimal 
 -- the end of a cell's line
 abbrev pub reading_part : Reading → List ℕ
 reading_part r =
-    codes "probe " ++ (decimal r.probe ++ (codes " sequence " ++ (decimal r.sequence ++ (codes " level " ++ (signed_decimal r.level ++ codes "\n")))))
+    codes "probe " ++ (decimal r.probe ++ (codes " sequence " ++ (decimal r.sequence ++ (codes " level " ++ signed_decimal r.level))))
 
 abbrev pub cell_line : ℕ → Cell Reading → List ℕ
 cell_line i c =
     codes "cell " ++ (decimal i ++ (codes " rank " ++ (signed_decimal c.rank ++ (codes " gap " ++ (signed_decimal c.gap
-    ++ (codes " " ++ reading_part c.item))))))
+    ++ (codes " " ++ (reading_part c.item ++ codes "\n")))))))
 
 -- a line, if the rank is 0 or more
 abbrev pub if_used : ℤ → List ℕ → List ℕ

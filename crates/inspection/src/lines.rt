@@ -41,7 +41,7 @@ fn push_reading(text: &mut String, reading: Reading) -> Result<(), AllocError>
         sequence,
         level,
     } = reading;
-    writeln!(text, "probe {probe} sequence {sequence} level {level}")
+    write!(text, "probe {probe} sequence {sequence} level {level}")
 }
 
 fn push_cell(text: &mut String, number: usize, cell: Cell<Reading>) -> Result<(), AllocError>
@@ -49,7 +49,8 @@ fn push_cell(text: &mut String, number: usize, cell: Cell<Reading>) -> Result<()
 {
     let Cell { item, rank, gap } = cell;
     write!(text, "cell {number} rank {rank} gap {gap} ")?;
-    push_reading(text, item)
+    push_reading(text, item)?;
+    writeln!(text)
 }
 
 // The line of a cell in use, and nothing for a free one.

@@ -5,11 +5,13 @@ use Rattle.items.specs.declared.reading.Reading.{Reading}
 use Rattle.protocol.specs.declared.record.Entry.{Entry}
 use Rattle.reports.specs.declared.lines.Stopped.{Stopped}
 
--- rank and worker, and the reading: probe, sequence and level
+-- probe, sequence and level
+abbrev pub reading_part : Reading → List ℕ
+reading_part r = decimal r.probe ++ (codes " " ++ (decimal r.sequence ++ (codes " " ++ signed_decimal r.level)))
+
+-- rank and worker, and the reading
 abbrev pub entry_line : Entry Reading → List ℕ
-entry_line e =
-    decimal e.rank ++ (codes " " ++ (decimal e.worker ++ (codes " " ++ (decimal e.item.probe ++ (codes " " ++ (decimal e.item.sequence
-    ++ (codes " " ++ (signed_decimal e.item.level ++ codes "\n"))))))))
+entry_line e = decimal e.rank ++ (codes " " ++ (decimal e.worker ++ (codes " " ++ (reading_part e.item ++ codes "\n"))))
 
 -- the number of the refusal, and the turn
 abbrev pub stopped_line : Stopped → List ℕ
