@@ -1,5 +1,5 @@
 // A memory cleared at a start, word by word from its first. Blocks and words go by number: std says
-// nothing of a memory that is written through its chunks.
+// nothing of a memory that is written through an iterator of its chunks.
 ghost use Rattle.std.specs.Prelude.{◌≡◌, ℕ, ◌+◌, ◌*◌, ◌^◌, ◌<◌, ◌≤◌, true, length};
 ghost use Rattle.stores.specs.Model.{cleared};
 ghost use Rattle.layout.specs.Blocks.{fit};

@@ -12,7 +12,7 @@ use stores::{MAX_HEAD, Store, StoreFault, check_cell, check_some, check_start};
 #[derive(Drop)]
 pub struct BlockMemory<'a, I: ItemKind> {
     mem: &'a mut [u8],
-    // The number of cells, if the memory's size fits it; else there are none.
+    // The number of cells, if the memory's size fits it; else there are none. Memories of several numbers have one size.
     n: usize,
     kind: PhantomData<I>,
     // The bytes are the image of what they mean.

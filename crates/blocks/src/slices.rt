@@ -1,5 +1,6 @@
 // The calls of a block memory, over its bytes: what each makes of the model. As methods, those that
-// write would each have to say again that the bytes stay those that were lent.
+// write would each have to say again that the bytes stay those that were lent; those that read stand
+// beside them.
 ghost use Rattle.std.specs.Prelude.{◌≡◌, ℕ, ◌+◌, ◌*◌, ◌/◌, ◌^◌, ◌<◌, ◌≤◌, true, false, length};
 ghost use Rattle.stores.specs.Model.{size, cell_of, with_head, with_end, cleared};
 ghost use Rattle.layout.specs.Blocks.{fit, stored};

@@ -33,6 +33,7 @@ pub(crate) fn header_text(heap: Global, n: usize, header: Header) -> Result<Stri
     format!(in heap; "cells {n}\nhead {head}\nend {end}")
 }
 
+// The lines are written into the text: as `Display` of so many pieces they did not prove.
 fn push_reading(text: &mut String, reading: Reading) -> Result<(), AllocError>
     ensures { OnOk result (string_bytes text.new ≡ string_bytes text.old ++ reading_part reading) }
 {

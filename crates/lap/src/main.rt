@@ -7,26 +7,26 @@ mod schedule;
 
 use crate::lines::{AnswerText, CallText, EntryText};
 use crate::schedule::{no_answers, schedule};
-use anyhow::anyhow;
-use arrangements::{ArrangedStore, Turned};
+use anyhow::Context;
+use arrangements::{ArrangedStore, ArrangementFault, Turned};
 use blocks::BlockMemory;
-use items::{ItemKind, Reading};
+use items::Reading;
 use lives::Parts;
 use protocol::{Answer, Call, Entry, Worker};
-use queue::{Log, Receiver};
+use queue::{Log, QueueFault, Receiver};
 use std::io;
+use stores::StoreFault;
 
 const CELLS: usize = 16;
 
 const BYTES: usize = 1024;
 
-// Makes the calls in a queue of its own, with two workers. Answers how many deliveries there are, or `None` where the
-// queue can't be laid out.
+// Makes the calls in a queue of its own, with two workers, and answers how many deliveries there are.
 fn live(
     calls: &[Call<Reading>],
     answers: &mut [Answer<Reading>],
     entries: &mut [Entry<Reading>],
-) -> Option<usize> {
+) -> Result<usize, QueueFault<ArrangementFault<StoreFault>>> {
     let mut bytes = [0u8; BYTES];
     let mut store = ArrangedStore::new(BlockMemory::new(&mut bytes, CELLS), Turned);
     let mut receiver = Receiver::new();
@@ -38,13 +38,9 @@ fn live(
         workers: &mut workers,
         log: &mut log,
     };
-    match parts.replay(0, calls, answers) {
-        Ok(held) => {
-            let _ = held.close_spare();
-            Some(log.count())
-        }
-        Err(_) => None,
-    }
+    let held = parts.replay(0, calls, answers)?;
+    let _ = held.close_spare();
+    Ok(log.count())
 }
 
 fn print_life(
@@ -71,15 +67,10 @@ fn print_log(rt: &HostRuntime, entries: &[Entry<Reading>], count: usize) -> io::
 fn main(rt: HostRuntime) -> anyhow::Result<()> {
     let calls = schedule(rt.alloc())?;
     let mut answers = no_answers(rt.alloc(), calls.len())?;
-    let no_entry = Entry {
-        rank: 0,
-        worker: 0,
-        item: Reading::blank(),
-    };
-    let mut entries = [no_entry; 16];
-    let Some(count) = live(calls.as_slice(), answers.as_mut_slice(), &mut entries) else {
-        return Err(anyhow!("the queue can't be laid out"));
-    };
+    let mut entries = [Entry::blank(); 16];
+    let count = live(calls.as_slice(), answers.as_mut_slice(), &mut entries)
+        .ok()
+        .context("the queue can't be laid out")?;
     print_life(&rt, calls.as_slice(), answers.as_slice())?;
     print_log(&rt, &entries, count)?;
     Ok(())

@@ -121,11 +121,11 @@ impl<I: ItemKind, S: Store<Item = I>> Parts<'_, '_, '_, '_, '_, I, S> {
         ensures fault { MatchResult result Accepted (FaultOf {X = I} S.Fault.Refusal.reason S.Fault.Refusal.layer (WorkerStep k)) }
         ensures lent { SameParts S.Store.lender self.old self.new }
     {
-        let answer = worker_step(self.store, self.workers, self.log, k)?;
-        Ok(Answer::Worked(answer))
+        worker_step(self.store, self.workers, self.log, k).map(Answer::Worked)
     }
 
-    fn by_kind(&mut self, held: Held, call: Call<I>) -> Turn<I, QueueFault<S::Fault>>
+    // Makes one call of a life, through the queue's own; one whose permit is not at hand is passed over.
+    pub fn make(&mut self, held: Held, call: Call<I>) -> Turn<I, QueueFault<S::Fault>>
         ensures made { Makes I.ItemKind.blank (queue_view S.Store.model self.old (permit_of held)) call (queue_view S.Store.model self.new (permit_of result.held)) (told (queue_reason S.Fault.Refusal.reason) result.answer) }
         ensures fault { MatchResult result.answer Accepted (FaultOf S.Fault.Refusal.reason S.Fault.Refusal.layer call) }
         ensures lent { SameParts S.Store.lender self.old self.new }
@@ -141,14 +141,5 @@ impl<I: ItemKind, S: Store<Item = I>> Parts<'_, '_, '_, '_, '_, I, S> {
             (Call::Withdraw, Held::Full(permit)) => self.withdraw(permit),
             (_, held) => Turn::not_made(held),
         }
-    }
-
-    // Makes one call of a life, through the queue's own; one whose permit is not at hand is passed over.
-    pub fn make(&mut self, held: Held, call: Call<I>) -> Turn<I, QueueFault<S::Fault>>
-        ensures made { Makes I.ItemKind.blank (queue_view S.Store.model self.old (permit_of held)) call (queue_view S.Store.model self.new (permit_of result.held)) (told (queue_reason S.Fault.Refusal.reason) result.answer) }
-        ensures fault { MatchResult result.answer Accepted (FaultOf S.Fault.Refusal.reason S.Fault.Refusal.layer call) }
-        ensures lent { SameParts S.Store.lender self.old self.new }
-    {
-        self.by_kind(held, call)
     }
 }

@@ -1,5 +1,5 @@
-// The parts of a queue, lent for one call after another. Each loan has a lifetime of its own, since what joins several
-// of them at one lifetime can't be proved yet.
+// The parts of a queue, lent for one call after another. Each loan has a lifetime of its own: a struct of several `&mut`
+// at one lifetime was tried, and the check can't prove its callers yet.
 use protocol::Worker;
 use queue::{Log, Receiver};
 

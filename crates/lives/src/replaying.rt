@@ -18,16 +18,13 @@ use stores::{Refusal, Store};
 fn told<I, F: Refusal>(answer: Result<Answer<I>, F>) -> Answer<I>
     ensures { result ≡ told F.Refusal.reason answer }
 {
-    match answer {
-        Ok(answer) => answer,
-        Err(fault) => Answer::Refused {
-            number: fault.number(),
-            place: fault.place(),
-        },
-    }
+    answer.unwrap_or_else(|fault| Answer::Refused {
+        number: fault.number(),
+        place: fault.place(),
+    })
 }
 
-// Writes an answer into its slot, if there is one.
+// Writes an answer into its slot, if there is one. By number: of a slot that `get_mut` lends too little is known.
 fn put_answer<I: Copy>(answers: &mut [Answer<I>], i: usize, answer: Answer<I>)
     ensures { answers.new ≡ slice_set answers.old i answer }
 {
@@ -65,8 +62,8 @@ impl<I: ItemKind, S: Store<Item = I>> Parts<'_, '_, '_, '_, '_, I, S> {
     }
 
     // Lays a queue out at `start` and makes these calls, each through the queue's own; one whose permit is not at hand is
-    // passed over. The answer of each goes into its slot, as many as there are. It hands back the permit that it then
-    // holds. What the whole life promises stands on this contract.
+    // passed over. The answer of each goes into its slot, as many as there are: the caller lends them, since a queue asks
+    // for no heap. It hands back the permit that it then holds. What the whole life promises stands on this contract.
     pub fn replay(
         &mut self,
         start: u64,

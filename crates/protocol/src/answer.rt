@@ -35,7 +35,7 @@ pub enum WorkerAnswer<I> {
 pub enum Answer<I> {
     // The permit that the call takes was not at hand.
     NotMade,
-    // By number and place: the rules know no store, and so no type of its faults.
+    // By number and place: a type of faults would stand in every definition of the promise, which never looks into it.
     Refused { number: u64, place: u64 },
     Submitted,
     Withdrew(Option<I>),

@@ -3,6 +3,7 @@
 #![tactic(auto)]
 
 mod answer;
+mod blank;
 mod record;
 mod theorem;
 mod words;

@@ -35,7 +35,8 @@ pub enum WorkerPhase {
     Copied,
 }
 
-// A worker's record. An idle worker's rank and copy are of no account.
+// A worker's record. An idle worker's rank and copy are of no account; they stay, so that a table of fixed memory holds
+// one kind of record.
 #[derive(Clone, Copy, PartialEq, Eq, Debug)]
 pub struct Worker<I> {
     pub phase: WorkerPhase,

@@ -18,7 +18,7 @@ use stores::{MAX_HEAD, Store};
 pub const MAX_WORKERS: usize = 64;
 
 // Clears the store at `start`, empties the receiver's hand and the log, and makes every worker idle. The parts stand one
-// by one, since in a gateway the receiver and the workers go into tasks of their own.
+// by one, as a rule of this queue: in a gateway the receiver and each worker go into a task of their own.
 pub fn lay_out<I: ItemKind, S: Store<Item = I>>(
     store: &mut S,
     receiver: &mut Receiver<I>,
@@ -43,7 +43,7 @@ pub fn lay_out<I: ItemKind, S: Store<Item = I>>(
         return Err(QueueFault::StartTooHigh);
     }
     let count = workers.len();
-    if count == 0 || count > MAX_WORKERS {
+    if !(1..=MAX_WORKERS).contains(&count) {
         return Err(QueueFault::WorkerCount(count));
     }
     store.clear(start).unwrap();

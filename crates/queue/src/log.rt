@@ -10,7 +10,7 @@ pub use calls::find;
 #[derive(Drop)]
 pub struct Log<'a, I> {
     entries: &'a mut [Entry<I>],
-    // The first so many entries are kept; the others are room, or left from an earlier life.
+    // The first so many entries are kept; the others are room, or left from an earlier life. No `Vec`: the memory is lent.
     count: usize,
     ghost within: { count ≤ length entries.now },
 }

@@ -4,6 +4,7 @@ ghost use Rattle.std.specs.Prelude.{◌≡◌};
 
 use protocol::ReceiverPhase;
 
+// Two types, and no marker on one, so that a call takes the permit it needs by its name.
 pub struct FreePermit {
     seal: (),
 }
@@ -50,7 +51,8 @@ impl FullPermit {
     }
 }
 
-// What an accepted receiver step answers, with the permit after it: only an announcement frees it.
+// What an accepted receiver step answers, with the permit after it: only an announcement frees it, and no other answer
+// can come with a free one.
 pub enum ReceiverStep {
     Stepped(FullPermit, ReceiverPhase, u64),
     Skipped(FullPermit, u64),

@@ -1,5 +1,5 @@
 // Questions to a log.
-use items::Reading;
+use items::{ItemKind, Reading};
 use protocol::Entry;
 use queue::{Log, find};
 
@@ -7,11 +7,7 @@ fn entry(rank: u64, worker: usize) -> Entry<Reading> {
     Entry {
         rank,
         worker,
-        item: Reading {
-            probe: 0,
-            sequence: 0,
-            level: 0,
-        },
+        item: Reading::blank(),
     }
 }
 

@@ -23,29 +23,27 @@ fn the_last_rank_is_handed_out(rt: HostRuntime) -> Result<(), Fail> {
     let mut workers = [Worker::idle(); 2];
     let mut entries: [Entry<Reading>; 0] = [];
     let mut log = Log::new(&mut entries);
-    match lay_out(
+    let Ok(permit) = lay_out(
         &mut store,
         &mut Receiver::new(),
         &mut workers,
         &mut log,
         LAST,
-    ) {
-        Ok(permit) => assert_eq!(rt; Held::Free(permit).close_spare(), Some(0)),
-        Err(_) => return Err(Fail::new("not laid out")),
-    }
+    ) else {
+        return Err(Fail::new("not laid out"));
+    };
+    assert_eq!(rt; Held::Free(permit).close_spare(), Some(0));
     assert_eq!(rt;
         worker_step(&mut store, &mut workers, &mut log, 0),
         Ok(WorkerAnswer::Claimed(LAST))
     );
     let refused = worker_step(&mut store, &mut workers, &mut log, 1);
     assert_eq!(rt; refused, Err(QueueFault::Below(StoreFault::RanksUsedUp)));
-    match refused {
-        Ok(_) => Err(Fail::new("not refused")),
-        Err(fault) => {
-            assert_eq!(rt; fault.number(), 6);
-            Ok(())
-        },
-    }
+    let Err(fault) = refused else {
+        return Err(Fail::new("not refused"));
+    };
+    assert_eq!(rt; fault.number(), 6);
+    Ok(())
 }
 
 // A worker that doubts whether rank 2 stands in its cell, whose gap is this one.

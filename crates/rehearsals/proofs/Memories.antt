@@ -1,5 +1,5 @@
 -- The memory of a rehearsal: the size of a straight record memory, and the queue that is laid out in it.
-use Rattle.std.proofs.Common.{◌≡◌, ℕ, ◌^◌, ◌<◌, ◌≤◌, true, ◌&&◌, List, length, get_or, Some, None, Option, sym, refl, ap, ◌∙◌, arith}
+use Rattle.std.proofs.Common.{◌≡◌, ℕ, ◌^◌, ◌<◌, ◌≤◌, true, ◌&&◌, List, length, get_or, Some, None, Option, Ok, Err, Result, MatchResult, IsOk, sym, refl, subst, rules, ap, ◌∙◌, arith}
 use Rattle.std.specs.Option.{option_map}
 use Rattle.std.proofs.lemmas.List.FromFn.{length-map-range_with_len}
 use Rattle.std.proofs.lemmas.List.{length-replicate}
@@ -54,3 +54,11 @@ pub stopped_as : {F : Type 0} (reason : F → Reason) (o : Option (Stop (RunFaul
     option_map (λ s. record { number = (run_reason reason s.fault).number; turn = s.turn }) o ≡ option_map stopped_of (option_map (stop_view reason) o)
 stopped_as reason None = refl
 stopped_as reason (Some s) = refl
+
+-- an answer of which no refusal can be
+pub ok_unless : {V E : Type 0} (P : V → Type 0) (Q : E → Type 0) (r : Result V E) → MatchResult r P Q → ((e : E) → Q e → ⊥) → IsOk r
+ok_unless P Q (Ok v) h never = search rules
+ok_unless P Q (Err e) h never = absurd (never e h)
+
+pub at_ok : {V E : Type 0} (P : V → Type 0) (Q : E → Type 0) (r : Result V E) (v : V) → r ≡ Ok v → MatchResult r P Q → P v
+at_ok {V} {E} P Q r v is h = subst (λ (o : Result V E). MatchResult o P Q) is h

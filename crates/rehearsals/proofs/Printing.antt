@@ -1,9 +1,9 @@
 -- What is printed of a rehearsal, of a bad line, and that it is one text.
-use Rattle.std.proofs.Common.{◌≡◌, ℕ, min, List, length, take, ℤ, Err, Option, sym, ap, ◌∙◌}
+use Rattle.std.proofs.Common.{◌≡◌, ℕ, List, ℤ, Err, Option, sym, ap, ◌∙◌}
 use Rattle.std.specs.Option.{option_map}
 use Rattle.items.specs.declared.reading.Reading.{Reading}
 use Rattle.protocol.specs.declared.record.Entry.{Entry}
-use Rattle.queue.proofs.Finding.{take_cut}
+use Rattle.queue.specs.Logs.{kept}
 use Rattle.schedules.specs.Rehearsals.{Ended}
 use Rattle.reports.specs.declared.lines.Stopped.{Stopped}
 use Rattle.reports.specs.Reports.{report_text}
@@ -18,13 +18,10 @@ use Rattle.rehearsals.specs.Outputs.{stopped_of, plan_rehearsal, ended_text, Pri
 use Rattle.rehearsals.specs.Outputs.Printed.{of_plan, of_bad_line}
 
 -- the report of what a rehearsal left is the text of its end
-pub report_is : (done : Ended Reading) (entries shown : List (Entry Reading)) (logged : ℕ) (stopped : Option Stopped) (end : ℤ) →
-    shown ≡ take logged entries → entries ≡ done.queue.log.entries →
-    logged ≡ min done.queue.log.count (length done.queue.log.entries) → stopped ≡ option_map stopped_of done.stop → end ≡ done.queue.store.end →
+pub report_is : (done : Ended Reading) (shown : List (Entry Reading)) (stopped : Option Stopped) (end : ℤ) →
+    shown ≡ kept done.queue.log → stopped ≡ option_map stopped_of done.stop → end ≡ done.queue.store.end →
     report_text shown stopped end ≡ ended_text done
-report_is done entries shown logged stopped end s e l o m =
-    let kept_is = s ∙ ap (take logged) e ∙ take_cut logged done.queue.log.count done.queue.log.entries l in
-    λ i. report_text (kept_is i) (o i) (m i)
+report_is done shown stopped end s o m = λ i. report_text (s i) (o i) (m i)
 
 pub fault_printed : (text : List ℕ) (f : TextFault) (out : List ℕ) → Parsed text (Err (Text f)) →
     out ≡ refused_line (text_reason f).number (text_reason f).place → Printed text out

@@ -25,14 +25,9 @@ fn rehearsed_text(
     requires { HeaderFits header }
     ensures { IfOk result (λ s. string_bytes s ≡ ended_text (staged header.cells (replicate header.workers idle_worker) (replicate 64 no_entry) header.start items.now turns.now)) }
 {
-    let no_entry = Entry {
-        rank: 0,
-        worker: 0,
-        item: Reading::blank(),
-    };
     let mut cells = vec![in heap; Cell::fresh(); header.cells as usize]?;
     let mut workers = vec![in heap; Worker::idle(); header.workers as usize]?;
-    let mut entries = vec![in heap; no_entry; LOG_ROOM]?;
+    let mut entries = vec![in heap; Entry::blank(); LOG_ROOM]?;
     text_in(
         heap,
         cells.as_mut_slice(),

@@ -38,9 +38,6 @@ pub(crate) fn text_in(
 {
     let mut store = ArrangedStore::new(RecordMemory::new(cells), Straight);
     let mut log = Log::new(entries);
-    let Ok(done) = rehearse(&mut store, workers, &mut log, start, items, turns) else {
-        unreachable()
-    };
-    let logged = log.count();
-    report(heap, &entries[..logged], stopped(done.stop), done.end)
+    let done = rehearse(&mut store, workers, &mut log, start, items, turns).unwrap();
+    report(heap, log.kept(), stopped(done.stop), done.end)
 }

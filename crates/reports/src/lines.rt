@@ -4,7 +4,8 @@ ghost use Rattle.reports.specs.Lines.{refused_line};
 
 use std::alloc::{AllocError, Global};
 
-// A refused turn: the number of the refusal, as it is printed, so that a report needs no type of faults.
+// A refused turn: the number of the refusal, and the turn. As numbers: a type of faults would stand in four functions to
+// print one number.
 #[derive(Clone, Copy, PartialEq, Eq, Debug)]
 pub struct Stopped {
     pub number: u64,

@@ -1,5 +1,5 @@
 -- The answer of a drain from where it ended.
-use Rattle.std.proofs.Common.{◌≡◌, ℕ, Bool, List, Option, Result, sym, ap, subst}
+use Rattle.std.proofs.Common.{◌≡◌, ℕ, Bool, List, Some, Err, Option, Result, sym, ap, subst}
 use Rattle.stores.specs.declared.refusal.Layer.{Layer}
 use Rattle.stores.specs.Refusals.{Reason}
 use Rattle.stores.specs.Model.{Contents}
@@ -13,7 +13,7 @@ use Rattle.runs.specs.declared.draining.DrainStop.{DrainStop}
 use Rattle.queue.specs.declared.fault.QueueFault.{QueueFault}
 use Rattle.runs.specs.declared.fault.RunFault.{RunFault}
 use Rattle.runs.specs.declared.fault.RunFault.TheVariants.{NoCells, WorkerCount, StillOpen, NoItemLeft, Below}
-use Rattle.runs.specs.Faults.{DrainFault, StepFault}
+use Rattle.runs.specs.Faults.{run_reason, DrainFault, StepFault}
 use Rattle.runs.specs.Drains.{steps_of, outcome_of, OfChecks, DrainedAs}
 
 pub as_ended : {X F : Type 0} (blank : X) (reason : F → Reason) (d : Drain X) (r : Result Drained (DrainStop (RunFault F))) (ws : List (Worker X)) (m : Contents X) (l : Log X) →
@@ -41,12 +41,12 @@ pub by_checks : {X F : Type 0} (blank : X) (reason : F → Reason) (budget : ℕ
     DrainedAs reason (drained blank budget ws m l) r ws' m' l'
 by_checks blank reason budget ws m l o r ws' m' l' e h = subst (λ (x : Option Reason). DrainedAs reason (drain_unless blank x budget ws m l) r ws' m' l') (sym e) h
 
-pub checks_own : {F : Type 0} (reason : F → Reason) (layer : Layer) (f : RunFault (QueueFault F)) → OfChecks f → DrainFault reason layer f
-checks_own reason layer NoCells o = tt
-checks_own reason layer (WorkerCount n) o = tt
-checks_own reason layer StillOpen o = tt
-checks_own reason layer (NoItemLeft turn) o = o
-checks_own reason layer (Below f) o = absurd o
+-- a check refuses it before the first step
+pub checked_out : {X F : Type 0} (blank : X) (reason : F → Reason) (budget : ℕ) (ws : List (Worker X)) (m : Contents X) (l : Log X) (e : DrainStop (RunFault F)) →
+    e.steps ≡ 0 → no_drain m ws ≡ Some (run_reason reason e.fault) → DrainedAs reason (drained blank budget ws m l) (Err e) ws m l
+checked_out blank reason budget ws m l e zero why =
+    by_checks blank reason budget ws m l (Some (run_reason reason e.fault)) (Err e) ws m l why
+    (as_ended blank reason _ (Err e) ws m l (ap (λ (n : ℕ). ends blank n (Err (run_reason reason e.fault)) ws m l) (sym zero)))
 
 pub step_fault : {F : Type 0} (reason : F → Reason) (layer : Layer) (f : RunFault (QueueFault F)) → StepFault reason layer f → DrainFault reason layer f
 step_fault reason layer NoCells o = absurd o

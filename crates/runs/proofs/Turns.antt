@@ -1,6 +1,5 @@
 -- One turn of a rehearsal, made as a call.
-use Rattle.std.proofs.Common.{◌≡◌, ℕ, ◌+◌, ◌-◌, ◌<◌, ◌⊎◌, List, [], ◌∷◌, length, get_or, take, drop, Some, Ok, Err, Result, sym, refl, ap, ◌∙◌, subst, inl, inr, arith, MatchResult}
-use Rattle.std.proofs.lemmas.List.{take_all}
+use Rattle.std.proofs.Common.{◌≡◌, ℕ, ◌+◌, ◌<◌, ◌⊎◌, List, length, get_or, drop, Some, Ok, Err, Result, sym, refl, ap, ◌∙◌, subst, inl, inr, MatchResult}
 use Rattle.stores.specs.declared.refusal.Layer.{Layer}
 use Rattle.stores.specs.Refusals.{Reason}
 use Rattle.stores.specs.Model.{size}
@@ -15,14 +14,10 @@ use Rattle.queue.specs.Faults.{Own, Carries}
 use Rattle.lives.specs.Turns.{Makes, told, Accepted, FaultOf}
 use Rattle.schedules.specs.Drains.{refusal}
 use Rattle.schedules.specs.Hands.{HandFits, party_call}
-use Rattle.schedules.specs.Rehearsals.{Ended, turn_call, rest_of, items_after, stops, by_answer, by_call, take_turns}
+use Rattle.schedules.specs.Rehearsals.{Ended, turn_call, items_after, stops, by_answer, by_call, take_turns}
 use Rattle.schedules.proofs.Rehearsing.{Fits, turn_fits, party_is_turn, turn_more}
 use Rattle.runs.specs.declared.fault.RunFault.{RunFault}
 use Rattle.runs.specs.Rehearsals.{went}
-
-pub rest_is : {X : Type 0} (items : List X) → take (length items - 1) (drop 1 items) ≡ rest_of items
-rest_is [] = refl
-rest_is (x ∷ items) = take_all (length (x ∷ items) - 1) items (omega arith)
 
 goes_on : {X : Type 0} (a : Answer X) (turn : ℕ) (q : Queue X) (e : Ended X) → Accepted a → by_answer a turn q e ≡ e
 goes_on NotMade turn q e h = refl

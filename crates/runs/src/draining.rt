@@ -31,6 +31,16 @@ pub struct DrainStop<F> {
     pub fault: F,
 }
 
+impl<F> DrainStop<F> {
+    // Before the first step.
+    fn before(fault: F) -> DrainStop<F>
+        ensures steps { result.steps ≡ 0 }
+        ensures fault { result.fault ≡ fault }
+    {
+        DrainStop { steps: 0, fault }
+    }
+}
+
 fn next_worker<I: Copy>(answer: WorkerAnswer<I>, k: usize) -> usize
     requires { k + 1 < 2 ^ 64 }
     ensures { result ≡ next_worker answer k }
@@ -60,6 +70,7 @@ fn step_each<I: ItemKind, S: Store<Item = I>>(
                 finished: true,
             });
         }
+        // A `match`: a closure would take the count of the steps, and read no plainer.
         match worker_step(store, workers, log, k) {
             Ok(answer) => k = next_worker(answer, k),
             Err(fault) => {
@@ -80,19 +91,20 @@ fn step_each<I: ItemKind, S: Store<Item = I>>(
 fn check<I: ItemKind, S: Store<Item = I>, F>(
     store: &S,
     workers: &[Worker<I>],
-) -> Result<(), RunFault<F>>
-    ensures reason { (reason : F → Reason) → MatchResult result (λ _. no_drain (S.Store.model store.now) workers.now ≡ None) (λ f. no_drain (S.Store.model store.now) workers.now ≡ Some (run_reason reason f)) }
-    ensures own { IfErr result OfChecks }
+) -> Result<(), DrainStop<RunFault<F>>>
+    ensures reason { (reason : F → Reason) → MatchResult result (λ _. no_drain (S.Store.model store.now) workers.now ≡ None) (λ e. no_drain (S.Store.model store.now) workers.now ≡ Some (run_reason reason e.fault)) }
+    ensures before { IfErr result (λ e. (e.steps ≡ 0) × OfChecks e.fault) }
 {
     if store.cells() == 0 {
-        return Err(RunFault::NoCells);
+        return Err(DrainStop::before(RunFault::NoCells));
     }
     let count = workers.len();
-    if count == 0 || count > MAX_WORKERS {
-        return Err(RunFault::WorkerCount(count));
+    if !(1..=MAX_WORKERS).contains(&count) {
+        return Err(DrainStop::before(RunFault::WorkerCount(count)));
     }
+    // Only this mark is an open queue's.
     if store.end_mark() == -1 {
-        return Err(RunFault::StillOpen);
+        return Err(DrainStop::before(RunFault::StillOpen));
     }
     Ok(())
 }
@@ -110,13 +122,12 @@ fn checked<I: ItemKind, S: Store<Item = I>>(
     ensures lender { S.Store.lender store.new ≡ S.Store.lender store.old }
     ensures lent { log_lender log.new ≡ log_lender log.old }
 {
-    match check(store, workers) {
-        Ok(()) => step_each(store, workers, log, budget.min(MAX_BUDGET)),
-        Err(fault) => Err(DrainStop { steps: 0, fault }),
-    }
+    check(store, workers)?;
+    step_each(store, workers, log, budget.min(MAX_BUDGET))
 }
 
-// Steps worker 0 until it is told over, then worker 1, and so on, for as many steps as the budget allows.
+// Steps worker 0 until it is told over, then worker 1, and so on, for as many steps as the budget allows. It takes the
+// workers' parts of the queue one by one: by then the receiver may be gone.
 pub fn drain<I: ItemKind, S: Store<Item = I>>(
     store: &mut S,
     workers: &mut [Worker<I>],

@@ -10,8 +10,8 @@ ghost use Rattle.queue.specs.Logs.{log_view, log_lender};
 ghost use Rattle.queue.specs.Receivers.{receiver_view};
 ghost use Rattle.lives.specs.Lent.{queue_view, SameParts};
 ghost use Rattle.lives.specs.Permits.{permit_of};
-ghost use Rattle.schedules.specs.Hands.{HandFits, receiver_call_by, party_call};
-ghost use Rattle.schedules.specs.Rehearsals.{Ended as Ending, turn_call, rest_of, items_after, by_call, take_turns, rehearsed};
+ghost use Rattle.schedules.specs.Hands.{HandFits, party_call};
+ghost use Rattle.schedules.specs.Rehearsals.{Ended as Ending, turn_call, items_after, by_call, take_turns, rehearsed};
 ghost use Rattle.runs.specs.Faults.{TurnFault, LayOutFault};
 ghost use Rattle.runs.specs.Rehearsals.{stop_view, went, RehearsedAs, Rehearses};
 
@@ -36,128 +36,113 @@ pub struct Rehearsed<F> {
     pub stop: Option<Stop<F>>,
 }
 
-fn rest_of<I>(items: &[I]) -> &[I]
-    ensures { result.now ≡ rest_of items.now }
-{
-    match items {
-        [] => items,
-        [_, rest @ ..] => rest,
-    }
-}
-
+// A submit takes the next item.
 fn items_after<I: Copy>(call: Call<I>, items: &[I]) -> &[I]
     ensures { result.now ≡ items_after call items.now }
 {
-    match call {
-        Call::Submit(_) => rest_of(items),
+    match (call, items) {
+        (Call::Submit(_), [_, rest @ ..]) => rest,
         _ => items,
     }
 }
 
-// The submit of the next item, if one is left.
-fn submission<I: Copy>(items: &[I]) -> Option<Call<I>>
-    ensures { result ≡ receiver_call_by free items.now }
-{
-    match items {
-        [] => None,
-        [item, ..] => Some(Call::Submit(*item)),
-    }
-}
-
-// The call of a party's turn: none of the receiver where its hand is empty and no item is left.
-fn call_of<I: Copy>(held: &Held, items: &[I], party: usize) -> Option<Call<I>>
-    ensures { result ≡ party_call (permit_of held.now) items.now party }
-{
-    if party > 0 {
-        return Some(Call::WorkerStep(party - 1));
-    }
-    match held {
-        Held::Free(_) => submission(items),
-        Held::Full(_) => Some(Call::ReceiverStep),
-        Held::Spent => None,
-    }
-}
-
-// After a turn: the permit, the items left, and the fault if it was refused.
-struct Taken<'i, I, F> {
+// The receiver's side of a rehearsal: the permit that is held, and the items that are left.
+struct Side<'i, I> {
     held: Held,
     items: &'i [I],
+}
+
+impl<I: Copy> Side<'_, I> {
+    // The call of a party's turn: none of the receiver where its hand is empty and no item is left.
+    fn call(&self, party: usize) -> Option<Call<I>>
+        ensures { result ≡ party_call (permit_of self.now.held) self.now.items.now party }
+    {
+        if party > 0 {
+            return Some(Call::WorkerStep(party - 1));
+        }
+        match (&self.held, self.items) {
+            (Held::Full(_), _) => Some(Call::ReceiverStep),
+            (Held::Free(_), [item, ..]) => Some(Call::Submit(*item)),
+            _ => None,
+        }
+    }
+}
+
+// After a turn: the receiver's side, and the fault if it was refused.
+struct Taken<'i, I, F> {
+    side: Side<'i, I>,
     outcome: Result<(), F>,
 }
 
 fn take_turn<'i, I: ItemKind, S: Store<Item = I>>(
     parts: &mut Parts<'_, '_, '_, '_, '_, I, S>,
-    held: Held,
-    items: &'i [I],
+    side: Side<'i, I>,
     party: usize,
     turn: usize,
 ) -> Taken<'i, I, RunFault<QueueFault<S::Fault>>>
-    requires { HandFits (permit_of held) (receiver_view parts.old.receiver.now).hand }
-    ensures went { (next : Queue I → List I → Ending I) → by_call I.ItemKind.blank (turn_call (queue_view S.Store.model parts.old (permit_of held)) items.now party) turn (queue_view S.Store.model parts.old (permit_of held)) items.now next ≡ went (queue_reason S.Fault.Refusal.reason) result.outcome turn (queue_view S.Store.model parts.new (permit_of result.held)) (next (queue_view S.Store.model parts.new (permit_of result.held)) result.items.now) }
-    ensures hand { HandFits (permit_of result.held) (receiver_view parts.new.receiver.now).hand }
+    requires { HandFits (permit_of side.held) (receiver_view parts.old.receiver.now).hand }
+    ensures went { (next : Queue I → List I → Ending I) → by_call I.ItemKind.blank (turn_call (queue_view S.Store.model parts.old (permit_of side.entry.held)) side.entry.items.now party) turn (queue_view S.Store.model parts.old (permit_of side.entry.held)) side.entry.items.now next ≡ went (queue_reason S.Fault.Refusal.reason) result.outcome turn (queue_view S.Store.model parts.new (permit_of result.side.held)) (next (queue_view S.Store.model parts.new (permit_of result.side.held)) result.side.items.now) }
+    ensures hand { HandFits (permit_of result.side.held) (receiver_view parts.new.receiver.now).hand }
     ensures size { size (S.Store.model parts.new.store.now) ≡ size (S.Store.model parts.old.store.now) }
     ensures fault { IfErr result.outcome (TurnFault S.Fault.Refusal.reason S.Fault.Refusal.layer) }
     ensures lent { SameParts S.Store.lender parts.old parts.new }
 {
-    let Some(call) = call_of(&held, items, party) else {
+    let Some(call) = side.call(party) else {
         return Taken {
-            held,
-            items,
+            side,
             outcome: Err(RunFault::NoItemLeft(turn)),
         };
     };
+    let Side { held, items } = side;
     let Turn { held, answer } = parts.make(held, call);
     match answer {
         Ok(_) => Taken {
-            held,
-            items: items_after(call, items),
+            side: Side {
+                held,
+                items: items_after(call, items),
+            },
             outcome: Ok(()),
         },
         Err(fault) => Taken {
-            held,
-            items,
+            side: Side { held, items },
             outcome: Err(RunFault::Below(fault)),
         },
     }
 }
 
-// After the last turn, or one that was refused: the permit, and where it stopped.
-struct Ended<F> {
-    held: Held,
+// After the last turn, or one that was refused: the receiver's side, and where it stopped.
+struct Ended<'i, I, F> {
+    side: Side<'i, I>,
     stop: Option<Stop<F>>,
 }
 
-fn take_turns<I: ItemKind, S: Store<Item = I>>(
+fn take_turns<'i, I: ItemKind, S: Store<Item = I>>(
     parts: &mut Parts<'_, '_, '_, '_, '_, I, S>,
-    held: Held,
-    items: &[I],
+    side: Side<'i, I>,
     turns: &[usize],
-) -> Ended<RunFault<QueueFault<S::Fault>>>
-    requires { HandFits (permit_of held) (receiver_view parts.old.receiver.now).hand }
-    ensures ended { take_turns I.ItemKind.blank 0 (queue_view S.Store.model parts.old (permit_of held)) items.now turns.now ≡ record { queue = (queue_view S.Store.model parts.new (permit_of result.held)); stop = option_map (stop_view (queue_reason S.Fault.Refusal.reason)) result.stop } }
-    ensures hand { HandFits (permit_of result.held) (receiver_view parts.new.receiver.now).hand }
+) -> Ended<'i, I, RunFault<QueueFault<S::Fault>>>
+    requires { HandFits (permit_of side.held) (receiver_view parts.old.receiver.now).hand }
+    ensures ended { take_turns I.ItemKind.blank 0 (queue_view S.Store.model parts.old (permit_of side.entry.held)) side.entry.items.now turns.now ≡ record { queue = (queue_view S.Store.model parts.new (permit_of result.side.held)); stop = option_map (stop_view (queue_reason S.Fault.Refusal.reason)) result.stop } }
+    ensures hand { HandFits (permit_of result.side.held) (receiver_view parts.new.receiver.now).hand }
     ensures size { size (S.Store.model parts.new.store.now) ≡ size (S.Store.model parts.old.store.now) }
     ensures fault { IfSome result.stop (λ s. TurnFault S.Fault.Refusal.reason S.Fault.Refusal.layer s.fault) }
     ensures lent { SameParts S.Store.lender parts.old parts.new }
 {
-    let mut held = held;
-    let mut left = items;
+    let mut side = side;
     for (turn, party) in turns.iter().enumerate() {
         let Taken {
-            held: next,
-            items: rest,
+            side: next,
             outcome,
-        } = take_turn(parts, held, left, *party, turn);
-        held = next;
-        left = rest;
+        } = take_turn(parts, side, *party, turn);
+        side = next;
         if let Err(fault) = outcome {
             return Ended {
-                held,
+                side,
                 stop: Some(Stop { turn, fault }),
             };
         }
     }
-    Ended { held, stop: None }
+    Ended { side, stop: None }
 }
 
 // Withdraws what is in hand, and closes. The queue has cells and then an empty hand, so the close is not refused.
@@ -198,7 +183,12 @@ fn perform<I: ItemKind, S: Store<Item = I>>(
     ensures fault { IfSome result.stop (λ s. TurnFault S.Fault.Refusal.reason S.Fault.Refusal.layer s.fault) }
     ensures lent { SameParts S.Store.lender parts.old parts.new }
 {
-    let Ended { held, stop } = take_turns(parts, Held::Free(permit), items, turns);
+    let side = Side {
+        held: Held::Free(permit),
+        items,
+    };
+    let Ended { side, stop } = take_turns(parts, side, turns);
+    let Side { held, items: _ } = side;
     let end = finish(parts, held);
     Rehearsed { end, stop }
 }
@@ -229,7 +219,8 @@ fn laid_out<I: ItemKind, S: Store<Item = I>>(
 
 // Lays a queue out at `start` and takes the turns one after the other: 0 is the receiver, which submits the next item
 // where its hand is empty and else makes a step; k is worker k - 1. After the last turn, or one that is refused, it
-// withdraws and closes.
+// withdraws and closes. The receiver is its own, so it takes the other parts one by one. A party is the number that the
+// text of a plan has for it.
 pub fn rehearse<I: ItemKind, S: Store<Item = I>>(
     store: &mut S,
     workers: &mut [Worker<I>],

@@ -1,14 +1,9 @@
 // Arranged stores over block memory: what the bytes below hold, and that they are sound.
+use crate::ITEM;
 use arrangements::{ArrangedStore, Straight, Turned};
 use blocks::{BlockMemory, inspect, stored_cell};
 use items::{ItemKind, Reading};
 use stores::Store;
-
-const ITEM: Reading = Reading {
-    probe: 41,
-    sequence: 7,
-    level: -250,
-};
 
 fn rank_below(bytes: &[u8], i: usize) -> Option<i64> {
     Some(stored_cell::<Reading>(bytes, i)?.rank)

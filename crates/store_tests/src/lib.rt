@@ -7,3 +7,10 @@ mod arranged;
 mod figures;
 #[cfg(test)]
 mod memories;
+
+#[cfg(test)]
+const ITEM: items::Reading = items::Reading {
+    probe: 41,
+    sequence: 7,
+    level: -250,
+};

@@ -1,15 +1,10 @@
 // Record memory and block memory behave alike, and block memory tells of damage.
+use crate::ITEM;
 use blocks::{BlockFault, BlockMemory, inspect, stored_cell};
 use items::{ItemKind, Notice, Reading};
 use std::process::Abort;
 use std::test::Fail;
 use stores::{Cell, RecordMemory, Store, StoreFault};
-
-const ITEM: Reading = Reading {
-    probe: 41,
-    sequence: 7,
-    level: -250,
-};
 
 // A store of 22 cells, made cleared at 0.
 fn puts_and_refusals<S: Store<Item = Reading, Fault = StoreFault>>(rt: &impl Abort, store: &mut S) {

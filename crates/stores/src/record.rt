@@ -14,7 +14,7 @@ pub struct RecordMemory<'a, I> {
     cells: &'a mut [Cell<I>],
     // The next rank to hand out; anything above 2^40 counts as 2^40.
     head: u64,
-    // -1 while the queue is open, else the first rank that is cut off.
+    // -1 while the queue is open, else the first rank that is cut off. Any mark that is set is kept.
     end: i64,
 }
 
@@ -36,7 +36,8 @@ impl<'a, I: ItemKind> RecordMemory<'a, I> {
     }
 }
 
-// The library's `fill` clones, which it can't know to succeed for every kind of item.
+// The library's `fill` clones, which can't be known to succeed for every kind of item, and `fill_with` tells of its
+// closure's calls alone.
 fn fill<I: Copy>(cells: &mut [Cell<I>], cell: Cell<I>)
     ensures { cells.new ≡ replicate (length cells.old) cell }
 {

@@ -11,7 +11,7 @@ pub enum Layer {
     Run,
 }
 
-// What the faults of every layer tell.
+// What the faults of every layer tell. Each is asked for alone by what prints or compares it.
 pub trait Refusal: Copy {
     // The layer that all faults of this type name.
     ghost layer: { Layer };

@@ -6,7 +6,8 @@ ghost use Rattle.stores.specs.Calls.{no_cell, no_end, no_rank, no_clear, Answere
 use crate::refusal::Refusal;
 use items::ItemKind;
 
-// A step of the queue reads or writes one part of a cell, so each part has a call of its own.
+// A step of the queue reads or writes one part of a cell, so each part has a call of its own. That a question leaves the
+// store alone (`same`) is what `&` says, and stays for whoever reads a contract alone.
 pub trait Store {
     type Item: ItemKind;
 

@@ -1,4 +1,5 @@
-// From the words of a line to what the line says.
+// From the words of a line to what the line says: `None` where they are out of form. Want of memory is the only error,
+// since it says nothing of the text.
 ghost use Rattle.std.specs.Prelude.{◌≡◌, ◌≤◌, map, IfOk, vec_items, Decides};
 ghost use Rattle.grammar.specs.Plans.{HeaderFits, ProbesFit, StretchesFit, header_words, probe_words, stretch_words};
 ghost use Rattle.grammar.specs.Scans.{Says};
@@ -7,11 +8,12 @@ ghost use Rattle.texts.specs.Words.{token_of};
 use crate::word::Word;
 use grammar::{Header, Stretch};
 use std::alloc::{AllocError, Global};
+use stores::MAX_HEAD;
 
 fn header_fits(h: &Header) -> bool
     ensures { Decides result (HeaderFits h.now) }
 {
-    (1..=64).contains(&h.cells) && (1..=8).contains(&h.workers) && h.start < 1 << 40
+    (1..=64).contains(&h.cells) && (1..=8).contains(&h.workers) && h.start < MAX_HEAD
 }
 
 pub(crate) fn header(words: &[Word]) -> Option<Header>

@@ -13,7 +13,7 @@ fn item(j: usize, probe: u16) -> Reading
 {
     Reading {
         probe,
-        sequence: (j % 65536) as u16,
+        sequence: (j & 0xffff) as u16,
         level: 0,
     }
 }

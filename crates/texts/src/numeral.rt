@@ -18,7 +18,8 @@ pub(crate) fn numeral(digits: &[u8]) -> Option<u64>
     if digits.is_empty() || has_leading_zero(digits) {
         return None;
     }
-    // A loop: the closure of a `try_fold` would have to be told that the value so far is small.
+    // A loop: `parse` takes text, and these are bytes; and the closure of a `try_fold` would have to be told that the
+    // value so far is small.
     let mut value = 0;
     for digit in digits {
         value = value * 10 + u64::from(*digit - b'0');

@@ -24,7 +24,8 @@ impl<'a, I: Copy> Log<'a, I> {
         Log { entries, count: 0 }
     }
 
-    fn kept(&self) -> &[Entry<I>]
+    // The entries that are kept.
+    pub fn kept(&self) -> &[Entry<I>]
         ensures { result.now ≡ kept (log_view self.now) }
     {
         &self.entries[..self.count]

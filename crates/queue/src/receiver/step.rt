@@ -16,7 +16,7 @@ use protocol::ReceiverPhase;
 use stores::{MAX_HEAD, Store};
 
 impl<I: ItemKind> Receiver<I> {
-    // One step with the item in hand, by the phase.
+    // One step with the item in hand, by the phase, which is data of the receiver's record.
     pub fn step<S: Store<Item = I>>(
         &mut self,
         store: &mut S,

@@ -144,6 +144,7 @@ fn deliver<I: ItemKind, S: Store<Item = I>>(
     ))
 }
 
+// The phase is data of the worker's record, so a `match`, and no table of steps.
 pub(crate) fn step_in_phase<I: ItemKind, S: Store<Item = I>>(
     store: &mut S,
     log: &mut Log<'_, I>,
@@ -160,6 +161,7 @@ pub(crate) fn step_in_phase<I: ItemKind, S: Store<Item = I>>(
     ensures lent { log_lender log.new ≡ log_lender log.old }
 {
     match w.phase {
+        // Closures over the worker: of a variant as a function the check knows too little.
         WorkerPhase::Idle => take_next(store, w, |w| WorkerAnswer::Claimed(w.rank)),
         WorkerPhase::Seeking => Ok(look(store, w, WorkerPhase::Doubting)),
         WorkerPhase::Doubting => Ok(doubt(store, w)),

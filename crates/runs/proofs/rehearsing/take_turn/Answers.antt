@@ -10,9 +10,9 @@ pub returns-in-Ok : goal.returns-in-Ok
 returns-in-Ok g c =
     let blank = g.I.ItemKind.blank in
     let reason = queue_reason g.S.Fault.Refusal.reason in
-    let q = queue_view g.S.Store.model c.args.parts.now (permit_of c.args.held) in
+    let q = queue_view g.S.Store.model c.args.parts.now (permit_of c.args.side.held) in
     let new = queue_view g.S.Store.model c.make-held.new.self (permit_of c.make-held.result.held) in
-    let items = c.args.items.now in
+    let items = c.args.side.items.now in
     let call = c.in-Some.call in
     let answer = c.make-held.result.answer in
     let made = c.make-held.ensures in
@@ -31,9 +31,9 @@ pub returns-in-Err : goal.returns-in-Err
 returns-in-Err g c =
     let blank = g.I.ItemKind.blank in
     let reason = queue_reason g.S.Fault.Refusal.reason in
-    let q = queue_view g.S.Store.model c.args.parts.now (permit_of c.args.held) in
+    let q = queue_view g.S.Store.model c.args.parts.now (permit_of c.args.side.held) in
     let new = queue_view g.S.Store.model c.make-held.new.self (permit_of c.make-held.result.held) in
-    let items = c.args.items.now in
+    let items = c.args.side.items.now in
     let call = c.in-Some.call in
     let answer = c.make-held.result.answer in
     let made = c.make-held.ensures in
