@@ -5,6 +5,7 @@ use items::Reading;
 use std::test::Fail;
 use stores::{Cell, RecordMemory, Refusal, Store, StoreFault};
 
+// Each crate of tests says its own values.
 const READING: Reading = Reading {
     probe: 41,
     sequence: 7,

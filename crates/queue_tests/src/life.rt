@@ -9,6 +9,7 @@ use protocol::{
 use queue::{Log, Receiver};
 use stores::{Cell, RecordMemory, Store};
 
+// Each crate of tests says its own values.
 const READING: Reading = Reading {
     probe: 41,
     sequence: 7,
@@ -46,20 +47,20 @@ fn answers_to_one_item<I: ItemKind>(item: I) -> [Answer<I>; 9] {
     ]
 }
 
-// Makes the calls from rank 0 on with one worker, and answers how many deliveries there are.
+// Makes the calls from rank 0 on, and answers how many deliveries there are.
 fn live<I: ItemKind, S: Store<Item = I>>(
     store: &mut S,
+    workers: &mut [Worker<I>],
     calls: &[Call<I>],
     answers: &mut [Answer<I>],
     entries: &mut [Entry<I>],
 ) -> Option<usize> {
     let mut receiver = Receiver::new();
-    let mut workers = [Worker::idle()];
     let mut log = Log::new(entries);
     let mut parts = Parts {
         store,
         receiver: &mut receiver,
-        workers: &mut workers,
+        workers,
         log: &mut log,
     };
     let held = parts.replay(0, calls, answers).ok()?;
@@ -81,7 +82,13 @@ fn notices_over_turned_block_memory(rt: HostRuntime) {
     let mut store = ArrangedStore::new(BlockMemory::new(&mut bytes, 16), Turned);
     let mut answers = [Answer::NotMade; 9];
     let mut entries = [first(Notice::Nothing); 2];
-    let count = live(&mut store, &one_item(SHIFT), &mut answers, &mut entries);
+    let count = live(
+        &mut store,
+        &mut [Worker::idle()],
+        &one_item(SHIFT),
+        &mut answers,
+        &mut entries,
+    );
     assert_eq!(rt; count, Some(1));
     assert_eq!(rt; answers, answers_to_one_item(SHIFT));
     assert_eq!(rt; entries, [first(SHIFT), first(Notice::Nothing)]);
@@ -99,7 +106,13 @@ fn readings_over_record_memory(rt: HostRuntime) {
     let mut store = RecordMemory::new(&mut cells);
     let mut answers = [Answer::NotMade; 9];
     let mut entries = [first(Reading::blank()); 2];
-    let count = live(&mut store, &one_item(READING), &mut answers, &mut entries);
+    let count = live(
+        &mut store,
+        &mut [Worker::idle()],
+        &one_item(READING),
+        &mut answers,
+        &mut entries,
+    );
     assert_eq!(rt; count, Some(1));
     assert_eq!(rt; answers, answers_to_one_item(READING));
     assert_eq!(rt; entries, [first(READING), first(Reading::blank())]);
@@ -128,7 +141,13 @@ fn a_used_cell_is_skipped(rt: HostRuntime) {
     ];
     let mut answers = [Answer::NotMade; 14];
     let mut entries: [Entry<Reading>; 0] = [];
-    let count = live(&mut store, &calls, &mut answers, &mut entries);
+    let count = live(
+        &mut store,
+        &mut [Worker::idle()],
+        &calls,
+        &mut answers,
+        &mut entries,
+    );
     assert_eq!(rt; count, Some(0));
     assert_eq!(rt;
         answers[9],
