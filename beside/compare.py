@@ -1,8 +1,9 @@
 #!/usr/bin/env python3
-"""Runs the program `rehearse` and the C ring beside it on random texts, and compares what they print, byte for byte.
+"""Runs the program `rehearse` and the C ring beside it on random texts, and compares what they print, byte for byte; then
+asks the proved library and plain C the same questions about block memories (limits.c).
 
-beside/compare.py [HOW_MANY [SEED]]; ten thousand and 1 where they are left out. It needs rt, gcc and nothing else. It
-stops at the first difference, and prints the text that shows it."""
+beside/compare.py [HOW_MANY [SEED]]; ten thousand texts and seed 1 where they are left out. It needs rt, gcc and nothing
+else. It stops at the first difference, and prints the text or the question that shows it."""
 import os
 import random
 import subprocess
@@ -13,14 +14,21 @@ HERE = os.path.dirname(os.path.abspath(__file__))
 HIGHEST = 1 << 40
 
 
-def build(folder):
-    ring = os.path.join(folder, "ring")
-    subprocess.run(["gcc", "-std=c99", "-O2", "-Wall", "-Wextra", "-o", ring, os.path.join(HERE, "ring.c")], check=True)
-    crate = os.path.join(HERE, "..", "crates", "rehearse")
-    said = subprocess.run(["rt", "run"], cwd=crate, stdin=subprocess.DEVNULL, stdout=subprocess.DEVNULL, stderr=subprocess.PIPE)
+def compile_c(folder, name, *libraries):
+    program = os.path.join(folder, name)
+    source = os.path.join(HERE, name + ".c")
+    subprocess.run(["gcc", "-std=c99", "-O2", "-Wall", "-Wextra", "-o", program, source, *libraries], check=True)
+    return program
+
+
+def proved(command, crate, made):
+    """Proves and builds a crate by rt, and answers the path of what it made."""
+    folder = os.path.join(HERE, "..", "crates", crate)
+    said = subprocess.run(["rt", command], cwd=folder, stdin=subprocess.DEVNULL, stdout=subprocess.DEVNULL,
+                          stderr=subprocess.PIPE)
     if said.returncode:
         sys.exit(said.stderr.decode())
-    return os.path.join(crate, "out", "rehearse"), ring
+    return os.path.join(folder, "out", made)
 
 
 def start(r):
@@ -72,22 +80,26 @@ def damaged(r, text):
     return bytes(data)
 
 
+def compare_texts(folder, many, r):
+    programs = proved("run", "rehearse", "rehearse"), compile_c(folder, "ring")
+    kinds = {"run to the end": 0, "stopped": 0, "refused": 0}
+    for i in range(many):
+        text = plan(r)
+        text = damaged(r, text) if r.random() < 0.4 else text.encode()
+        ours, other = (subprocess.run([p], input=text, stdout=subprocess.PIPE, check=True).stdout for p in programs)
+        if ours != other:
+            sys.exit("text %d differs:\n%r\nrehearse: %r\nC ring:   %r" % (i, text, ours, other))
+        kinds["refused" if ours.startswith(b"refused") else "stopped" if b"stopped" in ours else "run to the end"] += 1
+    print("%d texts printed alike: %s" % (many, ", ".join("%d %s" % (n, kind) for kind, n in kinds.items())), flush=True)
+
+
 def main():
     many = int(sys.argv[1]) if len(sys.argv) > 1 else 10000
     r = random.Random(int(sys.argv[2]) if len(sys.argv) > 2 else 1)
-    kinds = {"run to the end": 0, "stopped": 0, "refused": 0}
     with tempfile.TemporaryDirectory() as folder:
-        programs = build(folder)
-        for i in range(many):
-            text = plan(r)
-            text = damaged(r, text) if r.random() < 0.4 else text.encode()
-            ours, other = (subprocess.run([p], input=text, stdout=subprocess.PIPE, check=True).stdout for p in programs)
-            if ours != other:
-                print("text %d differs:\n%r\nrehearse: %r\nC ring:   %r" % (i, text, ours, other))
-                return 1
-            kinds["refused" if ours.startswith(b"refused") else "stopped" if b"stopped" in ours else "run to the end"] += 1
-    print("%d texts printed alike: %s" % (many, ", ".join("%d %s" % (n, kind) for kind, n in kinds.items())))
-    return 0
+        compare_texts(folder, many, r)
+        limits = compile_c(folder, "limits", proved("lib", "c_exports", "libc_exports.a"))
+        return subprocess.run([limits]).returncode
 
 
 sys.exit(main())
