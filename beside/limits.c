@@ -17,17 +17,15 @@
 
 /* ---- plain C ---- */
 
-/* The bytes of a block memory of so many cells; 0 where there is none. */
+/* The bytes that a block memory of so many cells takes, if there may be so many. */
 static size_t bytes_for(size_t cells)
 {
-    if (cells == 0 || cells > MAX_CELLS)
-        return 0;
     return BLOCK_BYTES * (1 + (cells + CELLS_IN_BLOCK - 1) / CELLS_IN_BLOCK);
 }
 
 static struct verdict fits(size_t size, size_t cells)
 {
-    bool fit = bytes_for(cells) != 0 && size == bytes_for(cells);
+    bool fit = 1 <= cells && cells <= MAX_CELLS && size == bytes_for(cells);
     return (struct verdict){fit ? 0 : UNFIT, 0};
 }
 
@@ -93,11 +91,22 @@ static void compare_fit(size_t size, size_t cells)
     compare("fit", size, cells, block_memory_fits(size, cells), fits(size, cells));
 }
 
+/* The answers that docs/blocks.md gives as numbers. */
+static void compare_known(void)
+{
+    static const struct { size_t size, cells; uint64_t number; } known[] = {
+        {1024, 21, 0}, {1536, 22, 0}, {1024, 22, UNFIT}, {1598464, 65536, 0}, {1598464, 65537, UNFIT},
+    };
+    for (size_t i = 0; i < sizeof known / sizeof *known; i++)
+        compare("known fit", known[i].size, known[i].cells, block_memory_fits(known[i].size, known[i].cells),
+                (struct verdict){known[i].number, 0});
+}
+
 static void compare_fits(void)
 {
     static const size_t far[] = {0, 1, 512, 1024, 1536, SIZE_MAX};
     for (size_t cells = 0; cells <= MAX_CELLS + 50; cells++) {
-        size_t near = BLOCK_BYTES * (1 + (cells + CELLS_IN_BLOCK - 1) / CELLS_IN_BLOCK);
+        size_t near = bytes_for(cells);
         for (size_t size = near - 2; size <= near + 2; size++)
             compare_fit(size, cells);
         compare_fit(near - BLOCK_BYTES, cells);
@@ -133,8 +142,7 @@ static void report(const char *question)
 
 int main(void)
 {
-    if (bytes_for(21) != 1024 || bytes_for(22) != 1536 || bytes_for(65536) != 1598464 || bytes_for(65537) != 0)
-        return EXIT_FAILURE;
+    compare_known();
     compare_fits();
     report("fit questions");
     uint8_t *memory = malloc(bytes_for(MAX_CELLS));
