@@ -11,7 +11,7 @@ use Rattle.grammar.specs.Scans.{line_at, AllDigits, NoDigitNext, NextIs}
 pub next_at : (t : List ℕ) (i b : ℕ) → i < length t → (get_or t i 0 ≡ b → NextIs b (drop i t)) × (NextIs b (drop i t) → get_or t i 0 ≡ b)
 next_at t i b h = let e = drop_more t i 0 h in (λ p. subst (NextIs b) (sym e) p, λ n. subst (NextIs b) e n)
 
-next_past : (t : List ℕ) (i b : ℕ) → length t ≤ i → NextIs b (drop i t) → ⊥
+pub next_past : (t : List ℕ) (i b : ℕ) → length t ≤ i → NextIs b (drop i t) → ⊥
 next_past t i b h n = subst (NextIs b) (drop_all i t h) n
 
 pub next_within : (t : List ℕ) (i b : ℕ) → NextIs b (drop i t) → i < length t

@@ -13,6 +13,11 @@ use std::alloc::{AllocError, Global};
 use stores::{Cell, Refusal};
 use texts::{ParseFault, Plan, parse};
 
+// The memory of the largest plan, on the stack: a rehearsal asks the heap for its text alone.
+const MAX_CELLS: usize = 64;
+
+const MAX_WORKERS: usize = 8;
+
 const LOG_ROOM: usize = 64;
 
 // The text of a rehearsal in memory of its own.
@@ -25,14 +30,14 @@ fn rehearsed_text(
     requires { HeaderFits header }
     ensures { IfOk result (λ s. string_bytes s ≡ ended_text (staged header.cells (replicate header.workers idle_worker) (replicate 64 no_entry) header.start items.now turns.now)) }
 {
-    let mut cells = vec![in heap; Cell::fresh(); header.cells as usize]?;
-    let mut workers = vec![in heap; Worker::idle(); header.workers as usize]?;
-    let mut entries = vec![in heap; Entry::blank(); LOG_ROOM]?;
+    let mut cells = [Cell::fresh(); MAX_CELLS];
+    let mut workers = [Worker::idle(); MAX_WORKERS];
+    let mut entries = [Entry::blank(); LOG_ROOM];
     text_in(
         heap,
-        cells.as_mut_slice(),
-        workers.as_mut_slice(),
-        entries.as_mut_slice(),
+        &mut cells[..header.cells as usize],
+        &mut workers[..header.workers as usize],
+        &mut entries,
         header.start,
         items,
         turns,

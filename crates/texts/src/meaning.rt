@@ -5,7 +5,6 @@ ghost use Rattle.grammar.specs.Meanings.{item_of, items_of, turns_of};
 use crate::plan::Plan;
 use items::Reading;
 use std::alloc::{AllocError, Global};
-use std::iter;
 
 // Item `j`. Its sequence wraps at 2^16; a plan in form has at most 64 items.
 fn item(j: usize, probe: u16) -> Reading
@@ -34,9 +33,15 @@ impl Plan {
     pub fn turns(&self, heap: Global) -> Result<Vec<usize>, AllocError>
         ensures { IfOk result (λ v. v.items ≡ turns_of self.now.stretches.items) }
     {
-        self.stretches
-            .iter()
-            .flat_map(|stretch| iter::repeat_n(stretch.party as usize, stretch.count as usize))
-            .collect(heap)
+        let count = self.stretches.iter().fold(
+            0usize,
+            |sum, stretch| sum.saturating_add(stretch.count as usize),
+        );
+        let mut turns = Vec::with_capacity(heap, count)?;
+        for stretch in &self.stretches {
+            let count = turns.len().checked_add(stretch.count as usize);
+            turns.resize(count.ok_or(AllocError)?, stretch.party as usize)?;
+        }
+        Ok(turns)
     }
 }
