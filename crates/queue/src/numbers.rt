@@ -12,14 +12,14 @@ pub(crate) fn is_used(number: i64) -> bool
 pub(crate) fn is_rank(number: i64, rank: u64) -> bool
     ensures { result ≡ is_rank number rank }
 {
-    u64::try_from(number) == Ok(rank)
+    i64::try_from(rank) == Ok(number)
 }
 
 // A gap that is at least the rank.
 pub(crate) fn covers_rank(gap: i64, rank: u64) -> bool
     ensures { result ≡ covers gap rank }
 {
-    u64::try_from(gap).is_ok_and(|gap| gap >= rank)
+    i64::try_from(rank).is_ok_and(|rank| rank <= gap)
 }
 
 // An end mark that is set, and the rank is at least it.

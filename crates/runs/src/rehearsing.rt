@@ -40,8 +40,8 @@ pub struct Rehearsed<F> {
 fn items_after<I: Copy>(call: Call<I>, items: &[I]) -> &[I]
     ensures { result.now ≡ items_after call items.now }
 {
-    match (call, items) {
-        (Call::Submit(_), [_, rest @ ..]) => rest,
+    match call {
+        Call::Submit(_) => items.get(1..).unwrap_or(items),
         _ => items,
     }
 }
