@@ -13,7 +13,7 @@ use std::alloc::{AllocError, Global};
 use stores::{Cell, Refusal};
 use texts::{ParseFault, Plan, parse};
 
-// The memory of the largest plan, on the stack: a rehearsal asks the heap for its text alone.
+// The memory of the largest plan, on the stack: the heap is asked for the plan, its items, its turns and the text alone.
 const MAX_CELLS: usize = 64;
 
 const MAX_WORKERS: usize = 8;
