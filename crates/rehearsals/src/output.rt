@@ -14,9 +14,9 @@ use stores::{Cell, Refusal};
 use texts::{ParseFault, Plan, parse};
 
 // The memory of the largest plan, on the stack: the heap is asked for the plan, its items, its turns and the text alone.
-const MAX_CELLS: usize = 64;
+const PLAN_CELLS: usize = 64;
 
-const MAX_WORKERS: usize = 8;
+const PLAN_WORKERS: usize = 8;
 
 const LOG_ROOM: usize = 64;
 
@@ -30,8 +30,8 @@ fn rehearsed_text(
     requires { HeaderFits header }
     ensures { IfOk result (λ s. string_bytes s ≡ ended_text (staged header.cells (replicate header.workers idle_worker) (replicate 64 no_entry) header.start items.now turns.now)) }
 {
-    let mut cells = [Cell::fresh(); MAX_CELLS];
-    let mut workers = [Worker::idle(); MAX_WORKERS];
+    let mut cells = [Cell::fresh(); PLAN_CELLS];
+    let mut workers = [Worker::idle(); PLAN_WORKERS];
     let mut entries = [Entry::blank(); LOG_ROOM];
     text_in(
         heap,

@@ -33,11 +33,12 @@ impl Plan {
     pub fn turns(&self, heap: Global) -> Result<Vec<usize>, AllocError>
         ensures { IfOk result (λ v. v.items ≡ turns_of self.now.stretches.items) }
     {
-        let count = self.stretches.iter().fold(
+        // A loop into room for all: a chain took longer, and up to twice the memory.
+        let room = self.stretches.iter().fold(
             0usize,
             |sum, stretch| sum.saturating_add(stretch.count as usize),
         );
-        let mut turns = Vec::with_capacity(heap, count)?;
+        let mut turns = Vec::with_capacity(heap, room)?;
         for stretch in &self.stretches {
             let count = turns.len().checked_add(stretch.count as usize);
             turns.resize(count.ok_or(AllocError)?, stretch.party as usize)?;
